@@ -8,8 +8,11 @@ use crate::kinds::Linear;
 
 // The pixel flags that announce plain pixels: alpha only, colour, luma and chroma, luminance.
 const ALPHA: u32 = 0x2;
+
 const RGB: u32 = 0x40;
+
 const YUV: u32 = 0x200;
+
 const LUMINANCE: u32 = 0x2_0000;
 
 // The format of plain pixels: linear, with the bit count for its size. None where no flag announces plain pixels, or the

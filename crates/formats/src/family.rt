@@ -85,10 +85,9 @@ pub impl Family for Block as BlockFamily {
         if !is_side(width) || !is_side(height) {
             return Extent::NONE;
         }
-        Extent {
-            row_bytes: (width + 3) / 4 * self.bytes(),
-            rows: (height + 3) / 4,
-        }
+        let row_bytes = (width + 3) / 4 * self.bytes();
+        let rows = (height + 3) / 4;
+        Extent { row_bytes, rows }
     }
 }
 

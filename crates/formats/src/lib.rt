@@ -2,10 +2,14 @@
 mod bits;
 mod codes;
 mod dxgi;
+#[cfg(test)]
+mod expected;
 mod family;
 mod kinds;
 mod names;
 mod tables;
+#[cfg(test)]
+mod tests;
 mod text;
 
 pub use bits::bit_count_format;

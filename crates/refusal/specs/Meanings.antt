@@ -1,7 +1,9 @@
 -- What each refusal means, in the words that a program prints.
-use mathlib.Core.List.{List}
+use mathlib.Core.List.{List, _++_}
 use Prim.Native.Nat.{ℕ}
 use lib.Chars.{codes}
+use Rattle.std.specs.Written.{decimal}
+use Rattle.refusal.specs.Numbers.{numberOf}
 use Rattle.refusal.specs.declared.Refusal.{Refusal}
 use Rattle.refusal.specs.declared.Refusal.the-variants.{WrongLength, WrongMagic, WrongHeaderSize, ShortExtendedHeader, UnknownFormat, NoShape, OutOfRange, TooManyLevels, WrongEnd, NoSuchPiece, PastFileEnd, OtherLength, PieceOut, TooManyLoans, NumbersUsedUp, LoanNotOut, OtherBorrower, ForeignShelves, OutsideRow, NoSpace, NothingToUndo, OtherDocket, LoansOut, ShelfFull, PastCount, MalformedOrder, OverLimit}
 
@@ -33,3 +35,7 @@ meaningOf ShelfFull = codes "shelf full"
 meaningOf PastCount = codes "an end past the shelf's count"
 meaningOf MalformedOrder = codes "malformed order line"
 meaningOf OverLimit = codes "input over its limit"
+
+-- a refusal as text: its number, then its meaning
+abbrev pub refusalText : Refusal → List ℕ
+refusalText r = codes "refusal " ++ (decimal (numberOf r) ++ (codes ": " ++ meaningOf r))

@@ -2,7 +2,9 @@
 // that give it, and the order in which they test.
 ghost use mathlib.Core.Path.{_≡_};
 ghost use Rattle.refusal.specs.Numbers.{numberOf, Each-number-is-one-refusal};
-ghost use Rattle.refusal.specs.Meanings.{meaningOf};
+ghost use Rattle.refusal.specs.Meanings.{meaningOf, refusalText};
+ghost use Rattle.std.specs.declared.option.Option.the-variants.{Some};
+use std::fmt;
 
 #[derive(Clone, Copy, PartialEq, Eq, Debug)]
 pub enum Refusal {
@@ -55,7 +57,8 @@ impl Refusal {
             Refusal::ShortExtendedHeader => "extended header in fewer than 148 bytes",
             Refusal::UnknownFormat => "unknown format",
             Refusal::NoShape => "no shape",
-            Refusal::OutOfRange => "a side, a volume's depth or the number of elements out of range",
+            Refusal::OutOfRange =>
+                "a side, a volume's depth or the number of elements out of range",
             Refusal::TooManyLevels => "more levels than the longest chain",
             Refusal::WrongEnd => "the last piece does not end at the file's end",
             Refusal::NoSuchPiece => "no such piece",
@@ -77,5 +80,15 @@ impl Refusal {
             Refusal::MalformedOrder => "malformed order line",
             Refusal::OverLimit => "input over its limit",
         }
+    }
+}
+
+pub impl fmt::Display for Refusal as RefusalDisplay {
+    ghost shown = { λ refusal. Some (refusalText refusal) };
+
+    fn fmt<W: fmt::Write>(&self, f: &mut fmt::Formatter<W>) -> fmt::Result {
+        let number = self.number();
+        let meaning = self.meaning();
+        write!(f, "refusal {number}: {meaning}")
     }
 }

@@ -26,13 +26,13 @@ step m xs code i x r h is e =
 pub returns-then-code-range : need.returns-then-code-range
 returns-then-code-range g c =
     let e = step (g .L·Line .means) (c .args .lines .now) (c .args .code) (c .loop-line .line-index) (c .line-item .result) (c .range-range .result)
-        (omega arith) (c .line-item .is) (c .range-range .ensures) in
+    (omega arith) (c .line-item .is) (c .range-range .ensures) in
     grind (arith, tells)
 
 pub loop-line-again : need.loop-line-again
 loop-line-again g c =
     let e = step (g .L·Line .means) (c .args .lines .now) (c .args .code) (c .loop-line .line-index) (c .line-item .result) (c .range-range .result)
-        (omega arith) (c .line-item .is) (c .range-range .ensures) in
+    (omega arith) (c .line-item .is) (c .range-range .ensures) in
     grind (arith, tells)
 
 pub returns : need.returns

@@ -1,0 +1,3 @@
+pub mod Headers
+pub mod Facts
+pub mod Texts
