@@ -1,3 +1,11 @@
 pub mod Headers
+pub mod Levels
+pub mod Shapes
+pub mod LevelEnds
+pub mod Plans
+pub mod Tables
+pub mod Pieces
+pub mod Sound
+pub mod Layouts
 pub mod Facts
 pub mod Texts

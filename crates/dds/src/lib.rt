@@ -1,8 +1,23 @@
 // DDS files: what the header says.
+mod chain;
 mod facts;
+mod filling;
 mod header;
-mod reading;
+mod layout;
+mod level;
 
+mod piece;
+mod reading;
+mod shape;
+mod shapes;
+mod table;
+mod walk;
+
+pub use chain::longest_chain;
 pub use facts::Facts;
 pub use facts::FactsDisplay;
 pub use header::Header;
+pub use layout::Layout;
+pub use level::Level;
+pub use piece::Piece;
+pub use shape::Shape;

@@ -1,0 +1,6 @@
+mod Halving
+mod Begins
+mod Written
+mod Fitting
+mod Shaped
+mod Tabled
