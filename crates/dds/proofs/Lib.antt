@@ -4,3 +4,5 @@ mod Written
 mod Fitting
 mod Shaped
 mod Tabled
+mod Opened
+mod Answered

@@ -36,11 +36,12 @@ limit-few (Cube n) = omega arith
 limit-few (Volume d) = omega arith
 
 -- the two tests that an accepted shape passes
-record Passed (h : Header) (shape : Shape) : Type 0 where
+record Passed (h : Header) (o : Option Shape) (shape : Shape) : Type 0 where
+  some : o ≡ Some shape
   range : isInRange h shape ≡ true
   chain : ltb (longestChain (largestSide h shape)) (levelsOf h) ≡ false
 
-passed : (h : Header) (o : Option Shape) (shape : Shape) → judged h o ≡ Ok shape → Passed h shape
+passed : (h : Header) (o : Option Shape) (shape : Shape) → judged h o ≡ Ok shape → Passed h o shape
 passed h None shape e = let z : _≡_ {A = ℕ} 0 1 = cc in absurd (omega arith)
 passed h (Some s) shape e =
     ⊎-elim
@@ -56,7 +57,7 @@ passed h (Some s) shape e =
     (λ (few : ltb (longestChain (largestSide h s)) (levelsOf h) ≡ false).
     let k : _≡_ {A = Result Shape Refusal} (Ok s) (Ok shape) = sym (cond-false (ltb (longestChain (largestSide h s)) (levelsOf h)) _ _ few) ∙ f in
     let same : s ≡ shape = cc in
-    subst (Passed h) same (record { range = not-false (isInRange h s) inside; chain = few }))
+    subst (λ (x : Shape). Passed h (Some s) x) same (record { some = refl; range = not-false (isInRange h s) inside; chain = few }))
     (cases-bool (ltb (longestChain (largestSide h s)) (levelsOf h))))
     (cases-bool (not (isInRange h s)))
 
@@ -79,3 +80,6 @@ shaped h shape e =
       someElements = n .0;
       fewElements = n .1;
     }
+
+pub shape-is : (h : Header) (shape : Shape) → shapeRead h ≡ Ok shape → shapeOf h ≡ Some shape
+shape-is h shape e = passed h (shapeOf h) shape e .some

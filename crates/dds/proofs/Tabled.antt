@@ -15,11 +15,13 @@ use Rattle.dds.specs.declared.header.Header.{Header}
 use Rattle.dds.specs.declared.level.Level.{Level}
 use Rattle.dds.specs.declared.piece.Piece.{Piece}
 use Rattle.dds.specs.declared.shape.Shape.{Shape}
+use Rattle.dds.specs.declared.table.Chain.{Chain}
+use Rattle.dds.specs.declared.table.Sides.{Sides}
 use Rattle.dds.specs.declared.table.Table.{Table}
 use Rattle.dds.specs.LevelEnds.{pieceLength, totalOf}
 use Rattle.dds.specs.Levels.{levelsOf, sideAt}
-use Rattle.dds.specs.Plans.{Plan, planOf, beginAt, strideOf, endOf}
-use Rattle.dds.specs.Tables.{levelAt, blank}
+use Rattle.dds.specs.Plans.{Plan, planOf, sizeAt, beginAt, strideOf, endOf}
+use Rattle.dds.specs.Tables.{levelAt, blank, IsChain}
 use Rattle.dds.specs.Pieces.{Placed, Exists, Lists, Sized, Touching, FitsPlan, piecesOf}
 use Rattle.dds.specs.Sound.{slicesIn, sizeIn, planIn, Counted, Chained, Ended}
 use Rattle.dds.specs.Layouts.{sidesOf, TableOf}
@@ -50,6 +52,16 @@ total-front xs (suc n) h =
     let e = total-front xs n (omega arith) in
     let last : totalOf (getD xs n blank ∷ []) ≡ getD xs n blank .slices * pieceLength (getD xs n blank) = add-zero (getD xs n blank .slices * pieceLength (getD xs n blank)) in
     ap totalOf m ∙ total-append (take n xs) (getD xs n blank ∷ []) ∙ (λ i. e i + last i)
+
+-- the bytes of a chain's levels are those by the rules
+pub chain-total : (rowBytes rows : ℕ → ℕ → ℕ) (s : Sides) (count : ℕ) (c : Chain) → IsChain rowBytes rows s count c → count ≤ 15
+    → totalOf (take count (c .levels)) ≡ beginAt (sideAt (s .depth)) (sizeAt rowBytes rows (s .width) (s .height)) count
+chain-total rowBytes rows s count c is few =
+    let long = is .long in
+    total-front (c .levels) count (omega arith)
+    ∙ begin-agree (λ k. getD (c .levels) k blank .slices) (sideAt (s .depth)) (λ k. pieceLength (getD (c .levels) k blank)) (sizeAt rowBytes rows (s .width) (s .height)) count
+    (λ k h. ap (λ (x : Level). x .slices) (is .level k (omega arith) ∙ cond-true (ltb k count) _ _ (lt-ltb k count h)))
+    (λ k h. ap pieceLength (is .level k (omega arith) ∙ cond-true (ltb k count) _ _ (lt-ltb k count h)))
 
 -- two plans that agree as far as their levels go have the same pieces and the same end
 record Agree (a b : Plan) : Type 0 where
@@ -140,3 +152,16 @@ module _ (h : Header) (shape : Shape) (rowBytes rows : ℕ → ℕ → ℕ) (n :
       ∙ sym (ap (λ m. beginAt (slicesIn t) (sizeIn t) m) (is .count)
       ∙ begin-agree (slicesIn t) (planOf h shape rowBytes rows .slices) (sizeIn t) (planOf h shape rowBytes rows .size) (levelsOf h)
       (λ j m. ap (λ (x : Level). x .slices) (level-at j m)) (λ j m. ap pieceLength (level-at j m)))
+
+  pub table-ended : n ≤ 1073741824 → t .«pixel_end» ≡ n → Ended t
+  table-ended few e =
+      let length = is .length in
+      (table-stride, is .end ∙ sym table-end, omega arith, omega arith)
+
+  -- where the table ends at the file's end, its pieces fit the file
+  pub table-fits-file : t .«pixel_end» ≡ n → FitsPlan (planOf h shape rowBytes rows) n (piecesOf (planIn t))
+  table-fits-file e = subst (λ m. FitsPlan (planOf h shape rowBytes rows) m (piecesOf (planIn t))) (table-end ∙ sym (is .end) ∙ e) table-fits
+
+  -- and where it does not, none fits it
+  pub table-fits-none : (t .«pixel_end» ≡ n → ⊥) → (ps : List Placed) → FitsPlan (planOf h shape rowBytes rows) n ps → ⊥
+  table-fits-none ne ps f = ne (is .end ∙ sym (fits-only (planOf h shape rowBytes rows) n ps f .1))

@@ -3,7 +3,7 @@ use mathlib.Core.Path.{_≡_}
 use mathlib.Core.Bool.{cond}
 use Prim.Native.Nat.{ℕ, _≤_, _<_}
 use lib.Dec.{ltb}
-use lib.ListN.{getD}
+use lib.ListN.{getD, length}
 use Rattle.formats.specs.declared.family.Extent.{Extent}
 use Rattle.dds.specs.declared.level.Level.{Level}
 use Rattle.dds.specs.declared.table.Chain.{Chain}
@@ -41,6 +41,7 @@ levelAt rowBytes rows s level =
 -- the first levels of a table are those of the rules, and the rest is blank
 pub record IsChain (rowBytes rows : ℕ → ℕ → ℕ) (s : Sides) (count : ℕ) (c : Chain) : Type 0 where
   pub level : (k : ℕ) → k < 15 → getD (c .levels) k blank ≡ cond (ltb k count) (levelAt rowBytes rows s k) blank
+  pub long : length (c .levels) ≡ 15
   pub stride : c .stride ≡ beginAt (sideAt (s .depth)) (sizeAt rowBytes rows (s .width) (s .height)) count
 
 abbrev pub levelWith : Extent → Sides → ℕ → Level

@@ -5,7 +5,7 @@ mod filling;
 mod header;
 mod layout;
 mod level;
-
+mod opening;
 mod piece;
 mod reading;
 mod shape;
