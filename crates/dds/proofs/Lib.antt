@@ -6,3 +6,6 @@ mod Shaped
 mod Tabled
 mod Opened
 mod Answered
+mod Tiles
+mod Placing
+mod Spotting

@@ -7,5 +7,7 @@ pub mod Tables
 pub mod Pieces
 pub mod Sound
 pub mod Layouts
+pub mod Places
+pub mod Spots
 pub mod Facts
 pub mod Texts

@@ -1,4 +1,5 @@
 // DDS files: what the header says.
+mod area;
 mod chain;
 mod facts;
 mod filling;
@@ -7,12 +8,14 @@ mod layout;
 mod level;
 mod opening;
 mod piece;
+mod places;
 mod reading;
 mod shape;
 mod shapes;
 mod table;
 mod walk;
 
+pub use area::Area;
 pub use chain::longest_chain;
 pub use facts::Facts;
 pub use facts::FactsDisplay;
