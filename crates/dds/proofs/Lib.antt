@@ -9,3 +9,4 @@ mod Answered
 mod Tiles
 mod Placing
 mod Spotting
+mod Numbering

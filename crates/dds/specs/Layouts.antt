@@ -10,13 +10,15 @@ use Rattle.std.specs.declared.option.Option.the-variants.{Some, None}
 use Rattle.std.specs.declared.result.Result.{Result}
 use Rattle.std.specs.declared.result.Result.the-variants.{Ok, Err}
 use Rattle.refusal.specs.declared.Refusal.{Refusal}
-use Rattle.refusal.specs.declared.Refusal.the-variants.{WrongEnd}
+use Rattle.refusal.specs.declared.Refusal.the-variants.{UnknownFormat, WrongEnd}
+use Rattle.formats.specs.declared.kinds.FormatName.{FormatName}
+use Rattle.formats.specs.Extents.{rowBytesOf, rowsOf}
 use Rattle.dds.specs.declared.header.Header.{Header}
 use Rattle.dds.specs.declared.shape.Shape.{Shape}
 use Rattle.dds.specs.declared.table.Table.{Table}
 use Rattle.dds.specs.declared.table.Sides.{Sides}
 use Rattle.dds.specs.declared.layout.Layout.{Layout}
-use Rattle.dds.specs.Headers.{headerOf, headerRead}
+use Rattle.dds.specs.Headers.{headerOf, headerRead, headerName}
 use Rattle.dds.specs.Levels.{levelsOf}
 use Rattle.dds.specs.Shapes.{shapeOf, elementsOf, depthOf, shapeRead}
 use Rattle.dds.specs.Plans.{planOf, pixelBegin, strideOf, endOf}
@@ -87,3 +89,16 @@ abbrev pub Opened : List ℕ → ℕ → (ℕ → ℕ → ℕ) → (ℕ → ℕ 
 Opened head n rowBytes rows (Ok layout) = Accepted head n rowBytes rows layout
 Opened head n rowBytes rows (Err e) =
     Turned (refusalOf head n) e ((ps : List Placed) → Fits (headerOf head) rowBytes rows n ps → ⊥)
+
+abbrev pub OpenedAs : List ℕ → ℕ → Option FormatName → Result Layout Refusal → Type 0
+OpenedAs head n None r = r ≡ Err UnknownFormat
+OpenedAs head n (Some name) r = Opened head n (rowBytesOf name) (rowsOf name) r
+
+abbrev pub OpenedIn : List ℕ → ℕ → (ℕ → Option FormatName) → Result Header Refusal → Result Layout Refusal → Type 0
+OpenedIn head n names (Err e) r = r ≡ Err e
+OpenedIn head n names (Ok h) r = OpenedAs head n (headerName names h) r
+
+-- what opening answers with a table of the codes other than DX10: an unknown format is refused right after the header, and
+-- every other file is opened with the format that the header names
+abbrev pub OpenedBy : List ℕ → ℕ → (ℕ → Option FormatName) → Result Layout Refusal → Type 0
+OpenedBy head n names r = OpenedIn head n names (headerRead head n) r

@@ -9,5 +9,6 @@ pub mod Sound
 pub mod Layouts
 pub mod Places
 pub mod Spots
+pub mod Counts
 pub mod Facts
 pub mod Texts

@@ -73,3 +73,12 @@ Owner layout place None = (x : Placed) → Stands (piecesIn layout) x → Holds 
 abbrev pub WhoseIs : Layout → ℕ → Result (Option (Piece × ℕ)) Refusal → Type 0
 WhoseIs layout place (Ok o) = (place < layout .table .length) × Owner layout place o
 WhoseIs layout place (Err e) = (e ≡ PastFileEnd) × (layout .table .length ≤ place)
+
+-- the bytes of a piece, as a part of a file of the layout's length
+abbrev pub Shown : Layout → List ℕ → Piece → Result (RefT (List ℕ)) Refusal → Type 0
+Shown layout file p (Ok part) =
+    (length file ≡ layout .table .length)
+    × ((a : Area) × (AreaOf layout p a × (now part ≡ take (a .length) (drop (a .place) file)) × (length (now part) ≡ a .length)))
+Shown layout file p (Err e) =
+    ((length file ≡ layout .table .length → ⊥) → e ≡ OtherLength)
+    × (length file ≡ layout .table .length → (e ≡ NoSuchPiece) × (Exists (planIn (layout .table)) p → ⊥))

@@ -1,6 +1,7 @@
 // DDS files: what the header says.
 mod area;
 mod chain;
+mod counts;
 mod facts;
 mod filling;
 mod header;
@@ -22,5 +23,6 @@ pub use facts::FactsDisplay;
 pub use header::Header;
 pub use layout::Layout;
 pub use level::Level;
+pub use opening::head_of;
 pub use piece::Piece;
 pub use shape::Shape;

@@ -1,9 +1,10 @@
 // Laying out a file.
 ghost use mathlib.Core.Path.{_≡_};
 ghost use Prim.Native.Nat.{_≤_};
+ghost use lib.ListN.{take};
 ghost use Rattle.std.specs.declared.result.Result.the-variants.{Ok};
 ghost use Rattle.dds.specs.Shapes.{shapeRead};
-ghost use Rattle.dds.specs.Layouts.{TableOf, LaidOut, Opened};
+ghost use Rattle.dds.specs.Layouts.{TableOf, LaidOut, Opened, OpenedBy};
 ghost use Rattle.dds.specs.Plans.{pixelBegin};
 use crate::filling::chain_of;
 use crate::header::Header;
@@ -12,7 +13,9 @@ use crate::shape::Shape;
 use crate::table::Sides;
 use crate::table::Table;
 use crate::walk::element_step;
+use formats::CodeTable;
 use formats::Family;
+use formats::FormatFamily;
 use refusal::Refusal;
 
 impl Header {
@@ -73,4 +76,23 @@ impl Layout {
         let shape = header.read_shape()?;
         lay_out(&header, shape, length, family)
     }
+
+    // The layout of a file by the format that its header names, with a table of the codes other than DX10. Refuses as
+    // `read_with` does, and with UnknownFormat right after ShortExtendedHeader.
+    pub fn read<T: CodeTable>(head: &[u8], length: u64, codes: &T) -> Result<Layout, Refusal>
+        ensures { λ r. ⌜ OpenedBy (now (head .entry)) length (nameAt (now (codes .entry))) r ⌝ }
+    {
+        let header = Header::read(head, length)?;
+        match header.format(codes) {
+            Some(format) => Layout::read_with(head, length, &format),
+            None => Err(Refusal::UnknownFormat),
+        }
+    }
+}
+
+// The head of a file: its first 148 bytes, or the whole of a shorter one.
+pub fn head_of(file: &[u8]) -> &[u8]
+    ensures { λ r. ⌜ now r ≡ take 148 (now (file .entry)) ⌝ }
+{
+    &file[0..file.len().min(148)]
 }

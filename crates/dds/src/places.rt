@@ -4,7 +4,7 @@ ghost use Prim.Native.Nat.{_+_, _≤_, _<_};
 ghost use lib.ListN.{getD, length};
 ghost use Rattle.std.specs.Options.{Cases};
 ghost use Rattle.dds.specs.Tables.{blank};
-ghost use Rattle.dds.specs.Places.{placeWith, WhereIs, WhoseIs, Tiled};
+ghost use Rattle.dds.specs.Places.{placeWith, WhereIs, WhoseIs, Shown, Tiled};
 ghost use Rattle.dds.specs.Sound.{Counted, Chained, Ended};
 ghost use Rattle.dds.specs.Spots.{SpotOf};
 use crate::area::Area;
@@ -114,5 +114,17 @@ impl Layout {
             slice: spot.slice,
         };
         Ok(Some((piece, spot.offset)))
+    }
+
+    // The bytes of a piece, a part of the file. Refuses with OtherLength, then with NoSuchPiece.
+    pub fn bytes_of<'a>(&self, file: &'a [u8], piece: Piece) -> Result<&'a [u8], Refusal>
+        ensures { λ r. ⌜ Shown (now (self .entry)) (now (file .entry)) piece r ⌝ }
+    {
+        if file.len() as u64 != self.table().length {
+            return Err(Refusal::OtherLength);
+        }
+        let area = self.place_of(piece)?;
+        let place = area.place as usize;
+        Ok(&file[place..place + area.length as usize])
     }
 }
