@@ -28,14 +28,14 @@ pub header-is : (head : List ℕ) (n : ℕ) (h : Header) → headerRead head n �
 header-is head n h e = grind (arith, tells)
 
 module _ (head : List ℕ) (n : ℕ) (rowBytes rows : ℕ → ℕ → ℕ) (h : Header) (shape : Shape) (e : headerRead head n ≡ Ok h) (f : shapeRead h ≡ Ok shape) where
-  free : refusalOf head n ≡ None
+  pub free : refusalOf head n ≡ None
   free = ap firstOf e ∙ ap errOf f
 
   here : headerOf head ≡ h
   here = sym (header-is head n h e .0)
 
   -- a list that fits the header fits its plan, since a header has one shape
-  fits-plan : (ps : List Placed) → Fits (headerOf head) rowBytes rows n ps → FitsPlan (planOf h shape rowBytes rows) n ps
+  pub fits-plan : (ps : List Placed) → Fits (headerOf head) rowBytes rows n ps → FitsPlan (planOf h shape rowBytes rows) n ps
   fits-plan ps q =
       let a = q .has in
       let b : shapeOf (headerOf head) ≡ Some shape = ap shapeOf here ∙ shape-is h shape f in
@@ -43,14 +43,17 @@ module _ (head : List ℕ) (n : ℕ) (rowBytes rows : ℕ → ℕ → ℕ) (h : 
       subst (λ (x : Header). FitsPlan (planOf x shape rowBytes rows) n ps) here
       (subst (λ (x : Shape). FitsPlan (planOf (headerOf head) x rowBytes rows) n ps) same (q .fits))
 
+  pub plan-fits : (ps : List Placed) → FitsPlan (planOf h shape rowBytes rows) n ps → Fits (headerOf head) rowBytes rows n ps
+  plan-fits ps q = record {
+    shape = shape;
+    has = ap shapeOf here ∙ shape-is h shape f;
+    fits = subst (λ (x : Header). FitsPlan (planOf x shape rowBytes rows) n ps) (sym here) q;
+  }
+
   pub opened : (r : Result Layout Refusal) → LaidOut h shape rowBytes rows n r → Opened head n rowBytes rows r
   opened (Ok layout) l = record {
     free = free;
-    fits = record {
-      shape = shape;
-      has = ap shapeOf here ∙ shape-is h shape f;
-      fits = subst (λ (x : Header). FitsPlan (planOf x shape rowBytes rows) n (piecesIn layout)) (sym here) (l .0);
-    };
+    fits = plan-fits (piecesIn layout) (l .0);
     alone = λ ps q.
         fits-only (planOf h shape rowBytes rows) n ps (fits-plan ps q) .0
         ∙ sym (fits-only (planOf h shape rowBytes rows) n (piecesIn layout) (l .0) .0);

@@ -10,3 +10,4 @@ mod Tiles
 mod Placing
 mod Spotting
 mod Numbering
+mod Measured

@@ -29,11 +29,17 @@ pub record Shaped (h : Header) (shape : Shape) : Type 0 where
   pub someElements : 1 ≤ elementsOf shape
   pub fewElements : elementsOf shape ≤ 2048
 
-limit-few : (shape : Shape) → limitOf shape ≤ 16384
+pub limit-few : (shape : Shape) → limitOf shape ≤ 16384
 limit-few (Line n) = omega arith
 limit-few (Flat n) = omega arith
 limit-few (Cube n) = omega arith
 limit-few (Volume d) = omega arith
+
+pub limit-some : (shape : Shape) → 2048 ≤ limitOf shape
+limit-some (Line n) = omega arith
+limit-some (Flat n) = omega arith
+limit-some (Cube n) = omega arith
+limit-some (Volume d) = omega arith
 
 -- the two tests that an accepted shape passes
 record Passed (h : Header) (o : Option Shape) (shape : Shape) : Type 0 where

@@ -10,5 +10,6 @@ pub mod Layouts
 pub mod Places
 pub mod Spots
 pub mod Counts
+pub mod Figures
 pub mod Facts
 pub mod Texts

@@ -65,7 +65,7 @@ limitOf (Flat n) = 16384
 limitOf (Cube n) = 16384
 limitOf (Volume d) = 2048
 
-abbrev within : ℕ → ℕ → Bool
+abbrev pub within : ℕ → ℕ → Bool
 within top n = leb 1 n && leb n top
 
 -- both sides, a volume's depth and the number of elements are in range
