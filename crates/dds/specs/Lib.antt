@@ -12,4 +12,5 @@ pub mod Spots
 pub mod Counts
 pub mod Figures
 pub mod Facts
+pub mod Rows
 pub mod Texts

@@ -1,32 +1,26 @@
-// What a header says of its file and of the first image in it, and the line that tells it.
+// What a header says of its file, for people.
 ghost use mathlib.Core.Path.{_≡_};
-ghost use Rattle.std.specs.declared.option.Option.the-variants.{Some};
 ghost use Rattle.dds.specs.Facts.{factsRead};
-ghost use Rattle.dds.specs.Texts.{factsText};
 use crate::header::Header;
+use crate::shape::Shape;
 use formats::BuiltInCodeTable;
 use formats::BuiltInCodes;
-use formats::Extent;
-use formats::Family;
-use formats::FormatFamily;
 use formats::FormatName;
-use formats::FormatNameDisplay;
 use refusal::Refusal;
-use std::fmt;
 
-// The format, the sides and the number of levels, and what the first image takes.
+// The format, the shape, the sides of the first level and the number of levels.
 #[derive(Clone, Copy)]
 pub struct Facts {
     pub format: FormatName,
+    pub shape: Shape,
     pub width: u32,
     pub height: u32,
     pub levels: u32,
-    pub extent: Extent,
 }
 
 impl Facts {
-    // From a file's head, which is its first 148 bytes or the whole of a shorter one, and its length. Refuses as
-    // Header::read does, then with UnknownFormat, then with OutOfRange where a side is.
+    // From a file's head, which is its first 148 bytes or the whole of a shorter one, and its length, with the built-in table of
+    // codes. Refuses as opening does, but does not look where the pieces end.
     pub fn read(head: &[u8], length: u64) -> Result<Facts, Refusal>
         ensures { λ r. ⌜ r ≡ factsRead (now (head .entry)) length ⌝ }
     {
@@ -34,36 +28,13 @@ impl Facts {
         let Some(format) = header.format(&BuiltInCodes) else {
             return Err(Refusal::UnknownFormat);
         };
-        let extent = format.ask(header.width, header.height);
-        if extent.rows == 0 {
-            return Err(Refusal::OutOfRange);
-        }
+        let shape = header.read_shape()?;
         Ok(Facts {
             format: format.name(),
+            shape,
             width: header.width,
             height: header.height,
-            levels: header.level_count.max(1),
-            extent,
+            levels: header.levels(),
         })
-    }
-}
-
-pub impl fmt::Display for Facts as FactsDisplay {
-    ghost shown = { λ facts. Some (factsText facts) };
-
-    fn fmt<W: fmt::Write>(&self, f: &mut fmt::Formatter<W>) -> fmt::Result {
-        let Facts {
-            format,
-            width,
-            height,
-            levels,
-            extent,
-        } = *self;
-        let row_bytes = extent.row_bytes;
-        let rows = extent.rows;
-        write!(
-            f,
-            "{format}, {width} x {height}, levels {levels}, row bytes {row_bytes}, rows {rows}"
-        )
     }
 }

@@ -1,8 +1,9 @@
-// DDS files: what the header says.
+// DDS files: the header, the shape, the levels, and where each piece stands.
 mod area;
 mod chain;
 mod counts;
 mod facts;
+mod figures;
 mod filling;
 mod header;
 mod layout;
@@ -11,18 +12,36 @@ mod opening;
 mod piece;
 mod places;
 mod reading;
+mod row;
 mod shape;
 mod shapes;
 mod table;
+mod text;
 mod walk;
 
 pub use area::Area;
+pub use area::AreaDebug;
+pub use area::AreaPartialEq;
 pub use chain::longest_chain;
 pub use facts::Facts;
-pub use facts::FactsDisplay;
+pub use figures::measured_figures;
 pub use header::Header;
 pub use layout::Layout;
 pub use level::Level;
 pub use opening::head_of;
 pub use piece::Piece;
+pub use piece::PieceDebug;
+pub use piece::PiecePartialEq;
+pub use row::Owner;
+pub use row::OwnerDebug;
+pub use row::OwnerPartialEq;
+pub use row::Row;
 pub use shape::Shape;
+pub use shape::ShapeDebug;
+pub use shape::ShapePartialEq;
+pub use text::AreaDisplay;
+pub use text::FactsDisplay;
+pub use text::OwnerDisplay;
+pub use text::PieceDisplay;
+pub use text::RowDisplay;
+pub use text::ShapeDisplay;
