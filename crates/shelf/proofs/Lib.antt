@@ -1,0 +1,3 @@
+pub mod Shelves
+mod Runs
+mod Written
