@@ -75,9 +75,9 @@ slices-rising : (size e l s k here : ℕ) → Rising (slicesFrom size e l s k he
 slices-rising size e l s zero here = tt
 slices-rising size e l s (suc k) here = (
   λ p h.
-  let i = slices-only size e l (suc s) k (here + size) p h in
-  let low = i .low in
-  inr (sym (i .element), inr (sym (i .level), omega arith)),
+      let i = slices-only size e l (suc s) k (here + size) p h in
+      let low = i .low in
+      inr (sym (i .element), inr (sym (i .level), omega arith)),
   slices-rising size e l (suc s) k (here + size),
 )
 
@@ -286,18 +286,18 @@ same-lists size here m n [] (y ∷ ys) f g rx ry sx sy tx ty = absurd (g (y .pie
 same-lists size here m n (x ∷ xs) [] f g rx ry sx sy tx ty = absurd (f (x .piece) (inl refl))
 same-lists size here m n (x ∷ xs) (y ∷ ys) f g rx ry sx sy tx ty =
     let piece : x .piece ≡ y .piece =
-        ⊎-elim (λ (e : y .piece ≡ x .piece). sym e)
-        (λ (a : Lists ys (x .piece)).
-        ⊎-elim (λ (e : x .piece ≡ y .piece). e) (λ (b : Lists xs (y .piece)). absurd (not-both-before (y .piece) (x .piece) (ry .0 (x .piece) a) (rx .0 (y .piece) b)))
-        (g (y .piece) (inl refl)))
-        (f (x .piece) (inl refl)) in
+    ⊎-elim (λ (e : y .piece ≡ x .piece). sym e)
+    (λ (a : Lists ys (x .piece)).
+    ⊎-elim (λ (e : x .piece ≡ y .piece). e) (λ (b : Lists xs (y .piece)). absurd (not-both-before (y .piece) (x .piece) (ry .0 (x .piece) a) (rx .0 (y .piece) b)))
+    (g (y .piece) (inl refl)))
+    (f (x .piece) (inl refl)) in
     let place : x .place ≡ y .place = tx .0 ∙ sym (ty .0) in
     let length : x .length ≡ y .length = sx .0 ∙ ap (λ (p : Piece). size (p .level)) piece ∙ sym (sy .0) in
     let head : x ≡ y = λ i. record { piece = piece i; place = place i; length = length i } in
     let rest = same-lists size (here + x .length) m n xs ys
-        (λ p a. ⊎-elim (λ (e : y .piece ≡ p). absurd (not-before-itself (x .piece) p (piece ∙ e) (rx .0 p a))) (λ b. b) (f p (inr a)))
-        (λ p b. ⊎-elim (λ (e : x .piece ≡ p). absurd (not-before-itself (y .piece) p (sym piece ∙ e) (ry .0 p b))) (λ a. a) (g p (inr b)))
-        (rx .1) (ry .1) (sx .1) (sy .1) (tx .1) (subst (λ k. Touching (here + k) ys n) (sym length) (ty .1)) in
+    (λ p a. ⊎-elim (λ (e : y .piece ≡ p). absurd (not-before-itself (x .piece) p (piece ∙ e) (rx .0 p a))) (λ b. b) (f p (inr a)))
+    (λ p b. ⊎-elim (λ (e : x .piece ≡ p). absurd (not-before-itself (y .piece) p (sym piece ∙ e) (ry .0 p b))) (λ a. a) (g p (inr b)))
+    (rx .1) (ry .1) (sx .1) (sy .1) (tx .1) (subst (λ k. Touching (here + k) ys n) (sym length) (ty .1)) in
     ((λ i. head i ∷ rest .0 i), rest .1)
 
 -- a list that fits is the plan's, and ends where the plan does

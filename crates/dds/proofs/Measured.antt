@@ -60,15 +60,15 @@ module _ {w t l b : ℕ} {shape : Shape} {name : FormatName} (ok : fine w t l sh
   unfolding fine
   shape-ok =
       let p = and-parts ((within (limitOf shape) w && within (limitOf shape) t) && (within (limitOf shape) (depthOf shape) && within 2048 (elementsOf shape)))
-          (not (ltb (longestChain (max (max w t) (depthOf shape))) l)) ok in
+      (not (ltb (longestChain (max (max w t) (depthOf shape))) l)) ok in
       let width = s .widthIs in
       let height = s .heightIs in
       let levels = s .levelsIs in
       let range : isInRange h shape ≡ true =
-          (λ i. (within (limitOf shape) (width i) && within (limitOf shape) (height i)) && (within (limitOf shape) (depthOf shape) && within 2048 (elementsOf shape)))
-          ∙ p .0 in
+      (λ i. (within (limitOf shape) (width i) && within (limitOf shape) (height i)) && (within (limitOf shape) (depthOf shape) && within 2048 (elementsOf shape)))
+      ∙ p .0 in
       let chain : ltb (longestChain (largestSide h shape)) (levelsOf h) ≡ false =
-          (λ i. ltb (longestChain (max (max (width i) (height i)) (depthOf shape))) (levels i)) ∙ not-true _ (p .1) in
+      (λ i. ltb (longestChain (max (max (width i) (height i)) (depthOf shape))) (levels i)) ∙ not-true _ (p .1) in
       ap (judged h) (s .shapeIs) ∙ cond-false (not (isInRange h shape)) _ _ (not-from-true _ range)
       ∙ cond-false (ltb (longestChain (largestSide h shape)) (levelsOf h)) _ _ chain
 
@@ -104,7 +104,7 @@ module _ {w t l b : ℕ} {shape : Shape} {name : FormatName} (ok : fine w t l sh
         (a .table .length)
     accepts end P k (Err x) o =
         let a = subst (λ (y : Option Refusal). Turned y x ((ps : List Placed) → Fits (headerOf head) (rowBytesOf name) (rowsOf name) n ps → ⊥))
-            (free head n (rowBytesOf name) (rowsOf name) h shape e shape-ok) (opened-with (Err x) o) in
+        (free head n (rowBytesOf name) (rowsOf name) h shape e shape-ok) (opened-with (Err x) o) in
         let plan = planOf h shape (rowBytesOf name) (rowsOf name) in
         absurd (a .1 (piecesOf plan) (plan-fits head n (rowBytesOf name) (rowsOf name) h shape e shape-ok (piecesOf plan)
         (subst (λ m. FitsPlan plan m (piecesOf plan)) (ap endOf plan-is ∙ end) (pieces-fit plan))))
@@ -117,7 +117,7 @@ module _ {w t l b : ℕ} {shape : Shape} {name : FormatName} (ok : fine w t l sh
         (fits-plan head n (rowBytesOf name) (rowsOf name) h shape e shape-ok (piecesIn layout) (a .fits)) .1 ∙ ap endOf plan-is)))
     refuses not-end (Err x) o =
         let a = subst (λ (y : Option Refusal). Turned y x ((ps : List Placed) → Fits (headerOf head) (rowBytesOf name) (rowsOf name) n ps → ⊥))
-            (free head n (rowBytesOf name) (rowsOf name) h shape e shape-ok) (opened-with (Err x) o) in
+        (free head n (rowBytesOf name) (rowsOf name) h shape e shape-ok) (opened-with (Err x) o) in
         ap Err (a .0)
 
 abbrev entryOf : Plan → Piece → Placed

@@ -88,9 +88,9 @@ module _ {layout : Layout} {t : Table} {l : Level} {p : Piece} (f : Found layout
       → AreaOf layout p (record { place = place; length = length; «row_bytes» = l .«row_bytes»; rows = l .rows })
   found-area place length e m = record {
     stands =
-      subst (λ (x : Placed). Stands (piecesOf (planIn (layout .table))) x)
-      (λ i. record { piece = p; place = sym (e ∙ found-place) i; length = sym (m ∙ ap pieceLength (f .level)) i })
-      (entry-stands (layout .table) (layout .chained) (layout .ended) p found-exists);
+        subst (λ (x : Placed). Stands (piecesOf (planIn (layout .table))) x)
+        (λ i. record { piece = p; place = sym (e ∙ found-place) i; length = sym (m ∙ ap pieceLength (f .level)) i })
+        (entry-stands (layout .table) (layout .chained) (layout .ended) p found-exists);
     rowBytes = ap (λ (x : Level). x .«row_bytes») (f .level);
     rows = ap (λ (x : Level). x .rows) (f .level);
     length = m;

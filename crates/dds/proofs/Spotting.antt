@@ -61,14 +61,14 @@ module _ (t : Table) (counted : Counted t) (chained : Chained t) (ended : Ended 
       (λ (end : k + 1 ≡ t .«level_count»).
       let e = ended .0 in
       let f : beginAt (slicesIn t) (sizeIn t) (t .«level_count») ≡ beginAt (slicesIn t) (sizeIn t) k + slicesIn t k * sizeIn t k
-          = ap (λ n. beginAt (slicesIn t) (sizeIn t) n) (sym end ∙ add-one k) in
+      = ap (λ n. beginAt (slicesIn t) (sizeIn t) n) (sym end ∙ add-one k) in
       omega arith)
       (⊎-elim
       (λ (more : k + 1 < t .«level_count»).
       let l = last more in
       let c = chained (k + 1) more .2 in
       let f : beginAt (slicesIn t) (sizeIn t) (k + 1) ≡ beginAt (slicesIn t) (sizeIn t) k + slicesIn t k * sizeIn t k
-          = ap (λ n. beginAt (slicesIn t) (sizeIn t) n) (add-one k) in
+      = ap (λ n. beginAt (slicesIn t) (sizeIn t) n) (add-one k) in
       omega arith)
       (λ (less : t .«level_count» < k + 1). absurd (omega arith)))
       (cases-order (k + 1) (t .«level_count»))

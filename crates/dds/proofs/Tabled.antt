@@ -141,10 +141,13 @@ module _ (h : Header) (shape : Shape) (rowBytes rows : ℕ → ℕ → ℕ) (n :
       let count = is .count in
       let e = level-at k (omega arith) in
       let some : 1 ≤ slicesIn t k = subst (λ m. 1 ≤ m) (sym (ap (λ (x : Level). x .slices) e)) (side-some (sidesOf h shape .depth) k) in
-      let bytes : 1 ≤ sizeIn t k = subst (λ m. 1 ≤ m) (sym (ap pieceLength e)) (size-some rowBytes rows law (sidesOf h shape) (ok .sides) k) in
-      (some, bytes, ap (λ (x : Level). x .begin) e
-      ∙ sym (begin-agree (slicesIn t) (planOf h shape rowBytes rows .slices) (sizeIn t) (planOf h shape rowBytes rows .size) k
-      (λ j m. agree .slices j (omega arith)) (λ j m. agree .size j (omega arith))))
+      let bytes : 1 ≤ sizeIn t k = subst (λ m. 1 ≤ m) (sym (ap pieceLength e)) (size-some rowBytes rows law (sidesOf h shape) (ok .sides) k) in (
+        some,
+        bytes,
+        ap (λ (x : Level). x .begin) e
+            ∙ sym (begin-agree (slicesIn t) (planOf h shape rowBytes rows .slices) (sizeIn t) (planOf h shape rowBytes rows .size) k
+            (λ j m. agree .slices j (omega arith)) (λ j m. agree .size j (omega arith))),
+      )
 
   pub table-stride : t .stride ≡ strideOf (planIn t)
   table-stride =

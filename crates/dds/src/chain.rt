@@ -17,4 +17,3 @@ pub fn longest_chain(side: u32) -> u32
         levels += 1;
     }
 }
-

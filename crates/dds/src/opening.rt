@@ -41,7 +41,11 @@ fn table_of<F: Family>(header: &Header, shape: Shape, length: u64, family: &F) -
     let chain = chain_of(family, sides, level_count);
     let pixel_begin = header.pixel_begin();
     let elements = shape.elements();
-    let pixel_end = element_step(&chain.levels[0..level_count as usize], elements, pixel_begin);
+    let pixel_end = element_step(
+        &chain.levels[0..level_count as usize],
+        elements,
+        pixel_begin,
+    );
     Table {
         levels: chain.levels,
         level_count,
@@ -54,7 +58,12 @@ fn table_of<F: Family>(header: &Header, shape: Shape, length: u64, family: &F) -
 }
 
 // Lays out a file with this header and shape. Refuses with WrongEnd.
-fn lay_out<F: Family>(header: &Header, shape: Shape, length: u64, family: &F) -> Result<Layout, Refusal>
+fn lay_out<F: Family>(
+    header: &Header,
+    shape: Shape,
+    length: u64,
+    family: &F,
+) -> Result<Layout, Refusal>
     requires { ⌜ shapeRead (now header) ≡ Ok shape ⌝ ∗ ⌜ length ≤ 1073741824 ⌝ }
     ensures { λ r. ⌜ LaidOut (now (header .entry)) shape (rowBytes (now (family .entry))) (rows (now (family .entry))) length r ⌝ }
 {

@@ -70,7 +70,11 @@ impl Layout {
         ensures { λ r. ⌜ Cases r (now (self .entry) .table .«level_count» ≤ number) (λ l. (number < now (self .entry) .table .«level_count») × (l ≡ getD (now (self .entry) .table .levels) number blank)) ⌝ }
     {
         let table = self.table();
-        if number < table.level_count { Some(table.levels[number as usize]) } else { None }
+        if number < table.level_count {
+            Some(table.levels[number as usize])
+        } else {
+            None
+        }
     }
 
     // Where a piece stands. Refuses with NoSuchPiece.

@@ -9,9 +9,13 @@ use refusal::Refusal;
 
 // Bits of the fields caps2, flags and misc.
 const CUBE: u32 = 0x200;
+
 const ALL_FACES: u32 = 0xfc00;
+
 const VOLUME: u32 = 0x20_0000;
+
 const DEPTH: u32 = 0x80_0000;
+
 const TEXTURE_CUBE: u32 = 0x4;
 
 impl Header {
@@ -23,7 +27,8 @@ impl Header {
         let volume = self.caps2 & VOLUME != 0;
         match (cube, volume) {
             (false, false) => Some(Shape::Flat(1)),
-            (true, false) if self.caps2 & ALL_FACES == ALL_FACES && self.width == self.height => Some(Shape::Cube(6)),
+            (true, false) if self.caps2 & ALL_FACES == ALL_FACES && self.width == self.height =>
+                Some(Shape::Cube(6)),
             (false, true) if self.flags & DEPTH != 0 => Some(Shape::Volume(self.depth)),
             _ => None,
         }
@@ -48,7 +53,11 @@ impl Header {
     pub fn shape(&self) -> Option<Shape>
         ensures { λ r. ⌜ r ≡ shapeOf (now (self .entry)) ⌝ }
     {
-        if self.is_extended() { self.extended_shape() } else { self.plain_shape() }
+        if self.is_extended() {
+            self.extended_shape()
+        } else {
+            self.plain_shape()
+        }
     }
 
     // How many levels each element has: a count of 0 means one.

@@ -36,8 +36,8 @@ loop-k-holds g c = (
 pub end-begin-requires : need.end-begin-requires
 end-begin-requires g c κs =
     let e = c .level-of-level .ensures
-        ∙ wrote (g .F·Family .rowBytes (c .args .family .now)) (g .F·Family .rows (c .args .family .now)) (c .args .first) (c .loop-k .sides) (c .loop-k .begin) (c .loop-k .k)
-        (c .pre .0) (c .loop-k .inv .1) (c .loop-k .inv .2) in
+    ∙ wrote (g .F·Family .rowBytes (c .args .family .now)) (g .F·Family .rows (c .args .family .now)) (c .args .first) (c .loop-k .sides) (c .loop-k .begin) (c .loop-k .k)
+    (c .pre .0) (c .loop-k .inv .1) (c .loop-k .inv .2) in
     let f = begin-few (g .F·Family .rowBytes (c .args .family .now)) (g .F·Family .rows (c .args .family .now)) (g .F·Family·met .bounded (c .args .family .now)) (c .args .first) (c .pre .0) (suc (c .loop-k .k)) in
     let l = ap levelEnd e in
     omega arith
@@ -45,9 +45,8 @@ end-begin-requires g c κs =
 pub loop-k-again : need.loop-k-again
 loop-k-again g c =
     let e = c .level-of-level .ensures
-        ∙ wrote (g .F·Family .rowBytes (c .args .family .now)) (g .F·Family .rows (c .args .family .now)) (c .args .first) (c .loop-k .sides) (c .loop-k .begin) (c .loop-k .k)
-        (c .pre .0) (c .loop-k .inv .1) (c .loop-k .inv .2) in
-    (
+    ∙ wrote (g .F·Family .rowBytes (c .args .family .now)) (g .F·Family .rows (c .args .family .now)) (c .args .first) (c .loop-k .sides) (c .loop-k .begin) (c .loop-k .k)
+    (c .pre .0) (c .loop-k .inv .1) (c .loop-k .inv .2) in (
       search needs,
       c .halved-sides .ensures ∙ sides-step (c .args .first) (c .loop-k .sides) (c .loop-k .k) (c .loop-k .inv .1),
       rw add-one (c .end-begin .ensures ∙ ap levelEnd e),

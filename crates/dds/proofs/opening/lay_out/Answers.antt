@@ -16,20 +16,20 @@ returns-then-table-length g c =
 pub of-requires : need.of-requires
 of-requires g c κs =
     let ok = shaped (c .args .header .now) (c .args .shape) (c .pre .0) in
-    let is = c .table-of-table .ensures in
-    (
+    let is = c .table-of-table .ensures in (
       table-counted _ _ _ _ _ _ is ok,
-      (table-chained _ _ _ _ _ _ is ok (g .F·Family·met .bounded (c .args .family .now)),
-      table-ended _ _ _ _ _ _ is ok (c .pre .1) (omega arith)),
+      (
+        table-chained _ _ _ _ _ _ is ok (g .F·Family·met .bounded (c .args .family .now)),
+        table-ended _ _ _ _ _ _ is ok (c .pre .1) (omega arith),
+      ),
     )
 
 pub returns : need.returns
 returns g c =
     let ok = shaped (c .args .header .now) (c .args .shape) (c .pre .0) in
-    let is = c .table-of-table .ensures in
-    (
+    let is = c .table-of-table .ensures in (
       subst (λ (t : Table). FitsPlan (planOf (c .args .header .now) (c .args .shape) (g .F·Family .rowBytes (c .args .family .now)) (g .F·Family .rows (c .args .family .now))) (c .args .length) (piecesOf (planIn t)))
-      (sym (c .of .ensures)) (table-fits-file _ _ _ _ _ _ is ok (omega arith)),
+          (sym (c .of .ensures)) (table-fits-file _ _ _ _ _ _ is ok (omega arith)),
       subst (λ (t : Table). TableOf (c .args .header .now) (c .args .shape) (g .F·Family .rowBytes (c .args .family .now)) (g .F·Family .rows (c .args .family .now)) (c .args .length) t)
-      (sym (c .of .ensures)) is,
+          (sym (c .of .ensures)) is,
     )

@@ -10,8 +10,7 @@ pub chain-of-chain-requires : need.chain-of-chain-requires
 chain-of-chain-requires g c κs =
     let s = shaped (c .args .header .now) (c .args .shape) (c .pre) in
     let few = s .fewLevels in
-    let count = c .levels-level-count .ensures in
-    (
+    let count = c .levels-level-count .ensures in (
       subst (λ d. InRange (record { width = c .args .header .now .width; height = c .args .header .now .height; depth = d })) (sym (c .depth .ensures)) (s .sides),
       omega arith,
     )

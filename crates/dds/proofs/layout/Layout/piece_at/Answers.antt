@@ -24,11 +24,11 @@ returns-then-place-table-2 c =
       value = (
         omega arith,
         subst (λ (y : Table). (x : Placed) → Stands (piecesOf (planIn y)) x → Holds x (c .args .place) → ⊥) (t .value)
-        (nobody-at (c .table-table .result .now) (t .counted) (t .chained) (t .ended) (c .args .place)
-        (elim (c .then-place-table-2 .came) [
-          then-place-table-2·by·then-place-table-2 w ↦ inl (w .if-place-table-2 .taken)
-          | then-place-table-2·by·else-place-table-2·then-place-table-3 w ↦ inr (w .if-place-table-3 .taken)
-        ])),
+            (nobody-at (c .table-table .result .now) (t .counted) (t .chained) (t .ended) (c .args .place)
+            (elim (c .then-place-table-2 .came) [
+              | then-place-table-2·by·then-place-table-2 w ↦ inl (w .if-place-table-2 .taken)
+              | then-place-table-2·by·else-place-table-2·then-place-table-3 w ↦ inr (w .if-place-table-3 .taken)
+            ])),
       );
       tiled = tiled (c .args .self .now);
     }
@@ -41,12 +41,12 @@ returns c =
       value = (
         omega arith,
         subst
-        (λ (y : Table). Owned y (c .args .place)
-        (record { element = (c .args .place - c .table-table .result .now .«pixel_begin») / c .table-table .result .now .stride; level = c .spot-at-spot .result .level; slice = c .spot-at-spot .result .slice })
-        (c .spot-at-spot .result .offset))
-        (t .value)
-        (owner-at (c .table-table .result .now) (t .counted) (t .chained) (t .ended) (c .args .place) (c .spot-at-spot .result)
-        (c .if-place-table-2 .left) (c .if-place-table-3 .left) (c .spot-at-spot .ensures)),
+            (λ (y : Table). Owned y (c .args .place)
+            (record { element = (c .args .place - c .table-table .result .now .«pixel_begin») / c .table-table .result .now .stride; level = c .spot-at-spot .result .level; slice = c .spot-at-spot .result .slice })
+            (c .spot-at-spot .result .offset))
+            (t .value)
+            (owner-at (c .table-table .result .now) (t .counted) (t .chained) (t .ended) (c .args .place) (c .spot-at-spot .result)
+            (c .if-place-table-2 .left) (c .if-place-table-3 .left) (c .spot-at-spot .ensures)),
       );
       tiled = tiled (c .args .self .now);
     }

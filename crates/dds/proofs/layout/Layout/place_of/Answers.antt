@@ -16,10 +16,13 @@ returns-then-piece-table c =
     let a = ap (λ (x : Table). x .elements) (c .table-table .ensures .value) in
     let b = ap (λ (x : Level). x .slices) (c .in-Some .ensures tt .1) in
     record {
-      value = (refl, λ h.
-          (let e = h .0 in
-          let s = h .2 in
-          ⊎-elim (λ x. omega arith) (λ x. (let y = x .1 in omega arith)) (c .then-piece-table .either)));
+      value = (
+        refl,
+        λ h.
+            (let e = h .0 in
+            let s = h .2 in
+            ⊎-elim (λ x. omega arith) (λ x. (let y = x .1 in omega arith)) (c .then-piece-table .either)),
+      );
       tiled = tiled (c .args .self .now);
     }
 
@@ -37,14 +40,14 @@ place-in-requires c κs =
 pub returns : need.returns
 returns c = record {
   value =
-    found-area {layout = c .args .self .now}
-    (record {
-      table = c .table-table .ensures .value;
-      some = c .in-Some .ensures tt .0;
-      level = c .in-Some .ensures tt .1;
-      element = c .if-piece-table .left;
-      slice = c .if-piece-level .left;
-    })
-    (c .place-in .result) (c .piece-length .result) (c .place-in .ensures) (c .piece-length .ensures);
+      found-area {layout = c .args .self .now}
+      (record {
+        table = c .table-table .ensures .value;
+        some = c .in-Some .ensures tt .0;
+        level = c .in-Some .ensures tt .1;
+        element = c .if-piece-table .left;
+        slice = c .if-piece-level .left;
+      })
+      (c .place-in .result) (c .piece-length .result) (c .place-in .ensures) (c .piece-length .ensures);
   tiled = tiled (c .args .self .now);
 }
