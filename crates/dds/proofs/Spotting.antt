@@ -74,12 +74,11 @@ module _ (t : Table) (counted : Counted t) (chained : Chained t) (ended : Ended 
       (cases-order (k + 1) (t .«level_count»))
 
   -- the level's bytes are few enough for 32 bits
-  pub level-few : (k : ℕ) → k < t .«level_count» → getD (t .levels) k blank .begin + slicesIn t k * sizeIn t k ≤ 1073741824
-  level-few k h =
+  pub level-few : 1 ≤ t .elements → (k : ℕ) → k < t .«level_count» → getD (t .levels) k blank .begin + slicesIn t k * sizeIn t k ≤ 1073741824
+  level-few c k h =
       let b = chained k h .2 in
       let w = begin-within (slicesIn t) (sizeIn t) k (t .«level_count») h in
       let e = ended .0 in
-      let c = counted .2 in
       let m = mul-le 1 (strideOf (planIn t)) (t .elements) (strideOf (planIn t)) c (le-refl (strideOf (planIn t))) in
       let x = ended .1 in
       let y = ended .2 in
@@ -104,11 +103,11 @@ module _ (t : Table) (counted : Counted t) (chained : Chained t) (ended : Ended 
       })
 
   -- its numbers have 32 bits
-  pub spot-few : (offset : ℕ) (s : Spot) → SpotOf t offset s → (s .slice < 4294967296) × (s .offset < 4294967296)
-  spot-few offset s p =
+  pub spot-few : 1 ≤ t .elements → (offset : ℕ) (s : Spot) → SpotOf t offset s → (s .slice < 4294967296) × (s .offset < 4294967296)
+  spot-few e offset s p =
       let k = s .level in
       let some = chained k (p .level) in
-      let few = level-few k (p .level) in
+      let few = level-few e k (p .level) in
       let a = mul-le (slicesIn t k) 1 (slicesIn t k) (sizeIn t k) (le-refl (slicesIn t k)) (some .1) in
       let b = mul-le 1 (sizeIn t k) (slicesIn t k) (sizeIn t k) (some .0) (le-refl (sizeIn t k)) in
       let c = p .slice in

@@ -132,9 +132,8 @@ module _ (h : Header) (shape : Shape) (rowBytes rows : ℕ → ℕ → ℕ) (n :
       let elements = is .elements in
       let a = ok .someLevels in
       let b = ok .fewLevels in
-      let c = ok .someElements in
       let d = ok .fewElements in
-      (omega arith, omega arith, omega arith, omega arith)
+      (omega arith, omega arith, omega arith)
 
   pub table-chained : Lawful rowBytes rows → Chained t
   table-chained law k l =

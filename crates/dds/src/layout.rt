@@ -1,6 +1,7 @@
 // The layout of an accepted file.
 ghost use mathlib.Core.Path.{_≡_};
-ghost use Rattle.dds.specs.Sound.{Counted, Chained, Ended};
+ghost use Rattle.dds.specs.Sound.{Counted, Chained, Ended, emptyTable};
+use crate::level::Level;
 use crate::table::Table;
 
 // Where all pieces of an accepted file stand: a table in which they follow one another without a gap.
@@ -13,6 +14,33 @@ pub struct Layout {
 }
 
 impl Layout {
+    // The layout of no file: no elements, so no pieces, and no bytes. Its one level holds nothing.
+    pub fn empty() -> Layout
+        ensures { λ r. ⌜ r .table ≡ emptyTable ⌝ }
+    {
+        let level = Level {
+            width: 1,
+            height: 1,
+            slices: 1,
+            row_bytes: 1,
+            rows: 1,
+            begin: 0,
+        };
+        let mut levels = [Level::BLANK; 15];
+        levels[0] = level;
+        Layout {
+            table: Table {
+                levels,
+                level_count: 1,
+                elements: 0,
+                stride: 1,
+                pixel_begin: 0,
+                pixel_end: 0,
+                length: 0,
+            },
+        }
+    }
+
     pub(crate) fn of(table: Table) -> Layout
         requires { ⌜ Counted table ⌝ ∗ ⌜ Chained table ⌝ ∗ ⌜ Ended table ⌝ }
         ensures { λ r. ⌜ r .table ≡ table ⌝ }

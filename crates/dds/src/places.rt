@@ -42,6 +42,7 @@ fn spot_at(table: &Table, offset: u64) -> Spot
     requires counted { ⌜ Counted (now table) ⌝ }
     requires chained { ⌜ Chained (now table) ⌝ }
     requires ended { ⌜ Ended (now table) ⌝ }
+    requires some { ⌜ 1 ≤ now table .elements ⌝ }
     requires within { ⌜ offset < now table .stride ⌝ }
     ensures { λ r. ⌜ SpotOf (now (table .entry)) offset r ⌝ }
 {

@@ -11,7 +11,7 @@ use Rattle.dds.proofs.layout.Layout.piece_count.Needs as need
 
 pub mul-result : need.mul-result
 mul-result c =
-    let m = mul-le (c .table-table .result .now .elements) (c .pieces-of .result) 2048 64424509440 (c .table-table .ensures .counted .3) (c .pieces-of .ensures .bound) in
+    let m = mul-le (c .table-table .result .now .elements) (c .pieces-of .result) 2048 64424509440 (c .table-table .ensures .counted .2) (c .pieces-of .ensures .bound) in
     search needs
 
 pub returns : need.returns
