@@ -2,7 +2,11 @@
 use mathlib.Core.Path.{_≡_, refl, sym, _∙_, ap, subst}
 use Prim.Native.Nat.{ℕ, zero, suc, _+_, _*_, _≤_, _<_}
 use native.Mathlib.Omega.{arith}
+use mathlib.Core.Bool.{true}
 use lib.ListN.{getD}
+use Rattle.std.specs.declared.result.Result.the-variants.{Ok}
+use Rattle.std.proofs.shelf.Tests.{cond-true}
+use Rattle.std.proofs.shelf.Ways.{tells}
 use Rattle.dds.specs.declared.area.Area.{Area}
 use Rattle.dds.specs.declared.layout.Layout.{Layout}
 use Rattle.dds.specs.declared.level.Level.{Level}
@@ -13,7 +17,7 @@ use Rattle.dds.specs.LevelEnds.{pieceLength}
 use Rattle.dds.specs.Pieces.{Placed, Exists, piecesOf}
 use Rattle.dds.specs.Sound.{planIn, slicesIn, sizeIn, Counted, Chained, Ended}
 use Rattle.dds.specs.Tables.{blank}
-use Rattle.dds.specs.Places.{placeWith, Stands, Tiled, AreaOf}
+use Rattle.dds.specs.Places.{placeWith, existsIn, whereIn, Stands, Tiled, AreaOf}
 use Rattle.dds.proofs.Fitting.{pieces-fit}
 use Rattle.dds.proofs.Tiles.{piece-stands, pieces-between, pieces-disjoint, lists-stands, stands-lists}
 
@@ -95,3 +99,16 @@ module _ {layout : Layout} {t : Table} {l : Level} {p : Piece} (f : Found layout
     rows = ap (λ (x : Level). x .rows) (f .level);
     length = m;
   }
+
+  pub found-where : (place length : ℕ) → place ≡ placeWith t l p → length ≡ pieceLength l
+      → Ok (record { place = place; length = length; «row_bytes» = l .«row_bytes»; rows = l .rows }) ≡ whereIn (layout .table) p
+  found-where place length e m =
+      let h = found-exists in
+      let a = h .0 in
+      let b = h .1 in
+      let c = h .2 in
+      let inside : existsIn (layout .table) p ≡ true = grind (arith, tells) in
+      let level = f .level in
+      let x = e ∙ found-place in
+      let y = m ∙ ap pieceLength level in
+      (λ i. Ok (record { place = x i; length = y i; «row_bytes» = level i .«row_bytes»; rows = level i .rows })) ∙ sym (cond-true _ _ _ inside)

@@ -1,8 +1,10 @@
 -- Where the pieces of a layout stand, and which piece a byte lies in.
 use mathlib.Core.Path.{_≡_}
+use mathlib.Core.Bool.{Bool, cond, _&&_}
 use mathlib.Core.List.{List, [], _∷_}
 use mathlib.Core.Logic.{_⊎_}
 use Prim.Native.Nat.{ℕ, _+_, _*_, _≤_, _<_}
+use lib.Dec.{ltb}
 use lib.ListN.{getD, length, take, drop}
 use denote.Ref.{RefT, now}
 use Rattle.std.specs.declared.option.Option.{Option}
@@ -18,7 +20,7 @@ use Rattle.dds.specs.declared.piece.Piece.{Piece}
 use Rattle.dds.specs.declared.table.Table.{Table}
 use Rattle.dds.specs.LevelEnds.{pieceLength}
 use Rattle.dds.specs.Pieces.{Placed, Exists}
-use Rattle.dds.specs.Sound.{planIn, sizeIn}
+use Rattle.dds.specs.Sound.{planIn, slicesIn, sizeIn}
 use Rattle.dds.specs.Layouts.{piecesIn}
 use Rattle.dds.specs.Tables.{blank}
 
@@ -57,6 +59,22 @@ pub record AreaOf (layout : Layout) (p : Piece) (a : Area) : Type 0 where
   pub rowBytes : a .«row_bytes» ≡ getD (layout .table .levels) (p .level) blank .«row_bytes»
   pub rows : a .rows ≡ getD (layout .table .levels) (p .level) blank .rows
   pub length : a .length ≡ a .«row_bytes» * a .rows
+
+-- the same by a table's numbers: whether a piece exists, its area, and where it is
+abbrev pub existsIn : Table → Piece → Bool
+existsIn t p = ltb (p .element) (t .elements) && (ltb (p .level) (t .«level_count») && ltb (p .slice) (slicesIn t (p .level)))
+
+abbrev pub areaIn : Table → Piece → Area
+areaIn t p =
+    record {
+      place = placeWith t (getD (t .levels) (p .level) blank) p;
+      length = sizeIn t (p .level);
+      «row_bytes» = getD (t .levels) (p .level) blank .«row_bytes»;
+      rows = getD (t .levels) (p .level) blank .rows;
+    }
+
+abbrev pub whereIn : Table → Piece → Result Area Refusal
+whereIn t p = cond (existsIn t p) (Ok (areaIn t p)) (Err NoSuchPiece)
 
 -- where a piece stands; refused where there is no such piece
 abbrev pub WhereIs : Layout → Piece → Result Area Refusal → Type 0

@@ -4,7 +4,7 @@ ghost use Prim.Native.Nat.{_+_, _≤_, _<_};
 ghost use lib.ListN.{getD, length};
 ghost use Rattle.std.specs.Options.{Cases};
 ghost use Rattle.dds.specs.Tables.{blank};
-ghost use Rattle.dds.specs.Places.{placeWith, WhereIs, WhoseIs, Shown, Tiled};
+ghost use Rattle.dds.specs.Places.{placeWith, whereIn, WhereIs, WhoseIs, Shown, Tiled};
 ghost use Rattle.dds.specs.Sound.{Counted, Chained, Ended};
 ghost use Rattle.dds.specs.Spots.{SpotOf};
 use crate::area::Area;
@@ -81,6 +81,7 @@ impl Layout {
     // Where a piece stands. Refuses with NoSuchPiece.
     pub fn place_of(&self, piece: Piece) -> Result<Area, Refusal>
         ensures value { λ r. ⌜ WhereIs (now (self .entry)) piece r ⌝ }
+        ensures exact { λ r. ⌜ r ≡ whereIn (now (self .entry) .table) piece ⌝ }
         ensures tiled { λ _. ⌜ Tiled (now (self .entry)) ⌝ }
     {
         let Some(level) = self.level(piece.level) else {

@@ -1,0 +1,5 @@
+pub mod Books
+pub mod Jobs
+pub mod Opening
+pub mod Lending
+pub mod Shipping
