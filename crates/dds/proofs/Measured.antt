@@ -3,7 +3,7 @@ use mathlib.Core.Path.{_≡_, refl, sym, _∙_, ap, subst}
 use mathlib.Core.Bool.{Bool, true, false, cond, not, _&&_}
 use mathlib.Core.List.{List}
 use mathlib.Core.Logic.{⊎-elim}
-use Prim.Native.Nat.{ℕ, _+_, _*_, _≤_, _<_, max}
+use Prim.Native.Nat.{ℕ, _+_, _-_, _*_, _≤_, _<_, max}
 use native.Mathlib.Omega.{arith}
 use lib.Dec.{ltb, lit<}
 use lib.ListN.{length}
@@ -33,7 +33,8 @@ use Rattle.dds.specs.Layouts.{Fits, Opened, OpenedAs, OpenedIn, OpenedBy, Acce
 use Rattle.dds.specs.Places.{Stands, Holds, WhoseIs, Owner}
 use Rattle.dds.specs.Figures.{Says, Answers, AcceptedWith, Opens, Whose, Figures, levelOf}
 use Rattle.dds.proofs.Fitting.{pieces-fit, fits-only}
-use Rattle.dds.proofs.Tiles.{piece-stands, pieces-between, pieces-disjoint}
+use Rattle.dds.proofs.Tiles.{piece-stands, pieces-between}
+use Rattle.dds.proofs.Placing.{tiled}
 use Rattle.dds.proofs.Shaped.{limit-few, limit-some}
 use Rattle.dds.proofs.Answered.{free, fits-plan, plan-fits}
 use Rattle.dds.proofs.Numbering.{pieces-length}
@@ -130,22 +131,12 @@ entryOf plan p =
 
 module _ (layout : Layout) (plan : Plan) (is : piecesIn layout ≡ piecesOf plan) where
   -- the byte of a piece at an offset is answered by that piece and offset
-  whose-piece : (p : Piece) → Exists plan p → (place offset : ℕ)
-      → place ≡ plan .begin + p .element * strideOf plan + beginAt (plan .slices) (plan .size) (p .level) + p .slice * plan .size (p .level) + offset
-      → offset < plan .size (p .level) → place < layout .table .length → Whose place (Ok (Some (p, offset))) layout
-  whose-piece p exists place offset at inside below (Err x) o = let past = o .1 in absurd (omega arith)
-  whose-piece p exists place offset at inside below (Ok None) o =
-      absurd (o .1 (entryOf plan p) (subst (λ (ps : List Placed). Stands ps (entryOf plan p)) (sym is) (piece-stands plan p exists)) (omega arith, omega arith))
-  whose-piece p exists place offset at inside below (Ok (Some po)) o =
-      let x = o .1 .0 in
-      let stands = subst (λ (ps : List Placed). Stands ps x) is (o .1 .1 .0) in
-      let place-is = o .1 .1 .2 in
-      let small = o .1 .1 .3 in
-      let same = pieces-disjoint plan x (entryOf plan p) place stands (piece-stands plan p exists) (omega arith, omega arith) (omega arith, omega arith) in
-      let piece-is : po .0 ≡ p = sym (o .1 .1 .1) ∙ ap (λ (y : Placed). y .piece) same in
-      let begin-is = ap (λ (y : Placed). y .place) same in
-      let offset-is : po .1 ≡ offset = omega arith in
-      λ i. Ok (Some (piece-is i, offset-is i))
+  whose-piece : (p : Piece) → Exists plan p → (place offset : ℕ) → place ≡ entryOf plan p .place + offset → offset < plan .size (p .level)
+      → Whose place (Ok (Some (p, offset))) layout
+  whose-piece p exists place offset at inside r o =
+      tiled layout .leads (entryOf plan p) place (subst (λ (ps : List Placed). Stands ps (entryOf plan p)) (sym is) (piece-stands plan p exists))
+      (omega arith, omega arith) r o
+      ∙ ap (λ n. Ok (Some (p, n))) (omega arith)
 
   -- a byte before the pixel data is of no piece
   whose-header : (place : ℕ) → place < plan .begin → place < layout .table .length → Whose place (Ok None) layout
@@ -186,9 +177,9 @@ figures = record {
   plain = λ h s head e. accepts refl h s head 262271 e refl (λ _. Unit {0}) (λ _ _ _. tt);
   oneMore = λ h s head e. refuses refl h s head 262272 e (λ end. omega arith);
   lastByte = λ h s head e. accepts refl h s head 11080 e refl (Whose 11063 (Ok (Some (levelOf 6, 7))))
-      (λ layout is n. whose-piece layout _ is (levelOf 6) (lit< tt, lit< tt, lit< tt) 11063 7 refl (lit< tt) (omega arith));
+      (λ layout is n. whose-piece layout _ is (levelOf 6) (lit< tt, lit< tt, lit< tt) 11063 7 refl (lit< tt));
   nextByte = λ h s head e. accepts refl h s head 11080 e refl (Whose 11064 (Ok (Some (levelOf 7, 0))))
-      (λ layout is n. whose-piece layout _ is (levelOf 7) (lit< tt, lit< tt, lit< tt) 11064 0 refl (lit< tt) (omega arith));
+      (λ layout is n. whose-piece layout _ is (levelOf 7) (lit< tt, lit< tt, lit< tt) 11064 0 refl (lit< tt));
   headerByte = λ h s head e. accepts refl h s head 11080 e refl (Whose 127 (Ok None))
       (λ layout is n. whose-header layout _ is 127 (lit< tt) (omega arith));
   pastEnd = λ h s head e. accepts refl h s head 11080 e refl (Whose 11080 (Err PastFileEnd))

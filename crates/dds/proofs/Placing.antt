@@ -1,10 +1,14 @@
 -- Where the pieces of a sound table stand.
 use mathlib.Core.Path.{_≡_, refl, sym, _∙_, ap, subst}
-use Prim.Native.Nat.{ℕ, zero, suc, _+_, _*_, _≤_, _<_}
+use Prim.Native.Nat.{ℕ, zero, suc, _+_, _-_, _*_, _≤_, _<_}
 use native.Mathlib.Omega.{arith}
 use mathlib.Core.Bool.{true}
 use lib.ListN.{getD}
-use Rattle.std.specs.declared.result.Result.the-variants.{Ok}
+use Rattle.std.specs.declared.option.Option.{Option}
+use Rattle.std.specs.declared.option.Option.the-variants.{Some, None}
+use Rattle.std.specs.declared.result.Result.{Result}
+use Rattle.std.specs.declared.result.Result.the-variants.{Ok, Err}
+use Rattle.refusal.specs.declared.Refusal.{Refusal}
 use Rattle.std.proofs.shelf.Tests.{cond-true}
 use Rattle.std.proofs.shelf.Ways.{tells}
 use Rattle.dds.specs.declared.area.Area.{Area}
@@ -17,9 +21,10 @@ use Rattle.dds.specs.LevelEnds.{pieceLength}
 use Rattle.dds.specs.Pieces.{Placed, Exists, piecesOf}
 use Rattle.dds.specs.Sound.{planIn, slicesIn, sizeIn, Counted, Chained, Ended}
 use Rattle.dds.specs.Tables.{blank}
-use Rattle.dds.specs.Places.{placeWith, existsIn, whereIn, Stands, Tiled, AreaOf}
+use Rattle.dds.specs.Places.{placeWith, existsIn, whereIn, Stands, Holds, WhoseIs, Tiled, AreaOf}
+use Rattle.dds.specs.Layouts.{piecesIn}
 use Rattle.dds.proofs.Fitting.{pieces-fit}
-use Rattle.dds.proofs.Tiles.{piece-stands, pieces-between, pieces-disjoint, lists-stands, stands-lists}
+use Rattle.dds.proofs.Tiles.{piece-stands, pieces-between, pieces-disjoint, pieces-cover, lists-stands, stands-lists}
 
 -- a piece's place by the table's own numbers
 abbrev pub placeIn : Table → Piece → ℕ
@@ -46,6 +51,27 @@ module _ (t : Table) (chained : Chained t) (ended : Ended t) where
       let e = ended .3 in
       omega arith
 
+-- the byte of a piece is answered by that piece
+leads : (layout : Layout) (x : Placed) (place : ℕ) → Stands (piecesIn layout) x → Holds x place
+    → (r : Result (Option (Piece × ℕ)) Refusal) → WhoseIs layout place r → r ≡ Ok (Some (x .piece, place - x .place))
+leads layout x place st h (Err e) w =
+    let high = pieces-between (planIn (layout .table)) x st .1 in
+    let c = layout .ended .1 in
+    let d = layout .ended .2 in
+    let past = w .1 in
+    let below = h .1 in
+    absurd (omega arith)
+leads layout x place st h (Ok None) w = absurd (w .1 x st h)
+leads layout x place st h (Ok (Some po)) w =
+    let y = w .1 .0 in
+    let at = w .1 .1 .2 in
+    let small = w .1 .1 .3 in
+    let same = pieces-disjoint (planIn (layout .table)) y x place (w .1 .1 .0) st (omega arith, omega arith) h in
+    let piece-is : po .0 ≡ x .piece = sym (w .1 .1 .1) ∙ ap (λ (z : Placed). z .piece) same in
+    let begin-is = ap (λ (z : Placed). z .place) same in
+    let offset-is : po .1 ≡ place - x .place = omega arith in
+    λ i. Ok (Some (piece-is i, offset-is i))
+
 -- what holds of every layout
 pub tiled : (layout : Layout) → Tiled layout
 tiled layout =
@@ -60,6 +86,8 @@ tiled layout =
           let c = layout .ended .1 in
           let d = layout .ended .2 in
           (b .0, omega arith));
+      covered = λ place low high. pieces-cover plan place low (let c = layout .ended .1 in omega arith);
+      leads = leads layout;
     }
 
 -- a piece that was found in the table, with its level

@@ -5,7 +5,7 @@ use mathlib.Core.Logic.{_⊎_, inl, inr, ⊎-elim}
 use Prim.Native.Nat.{ℕ, zero, suc, _+_, _*_, _≤_, _<_}
 use native.Mathlib.Nat.{suc-mul, suc-add, add-suc, add-zero, zero-add, add-assoc}
 use native.Mathlib.Omega.{arith}
-use Rattle.std.proofs.shelf.Tests.{cases-order}
+use Rattle.std.proofs.shelf.Tests.{cases-order, cases-lt}
 use Rattle.dds.specs.declared.piece.Piece.{Piece}
 use Rattle.dds.specs.Plans.{Plan, beginAt, strideOf, endOf}
 use Rattle.dds.specs.Pieces.{Placed, Exists, Lists, Touching, slicesFrom, levelsFrom, elementsFrom, piecesOf}
@@ -63,6 +63,18 @@ disjoint low high (z ∷ xs) t x y place (inl ex) (inl ey) hx hy = sym ex ∙ ey
 disjoint low high (z ∷ xs) t x y place (inl ex) (inr sy) hx hy = absurd (behind low high z xs t x y place ex sy hx hy)
 disjoint low high (z ∷ xs) t x y place (inr sx) (inl ey) hx hy = absurd (behind low high z xs t y x place ey sx hy hx)
 disjoint low high (z ∷ xs) t x y place (inr sx) (inr sy) hx hy = disjoint (low + z .length) high xs (t .1) x y place sx sy hx hy
+
+covers : (low high : ℕ) (xs : List Placed) → Touching low xs high → (place : ℕ) → low ≤ place → place < high → (x : Placed) × (Stands xs x × Holds x place)
+covers low high [] t place a b = absurd (omega arith)
+covers low high (y ∷ xs) t place a b =
+    let first = t .0 in
+    ⊎-elim
+    (λ (here : place < low + y .length). (y, (inl refl, (omega arith, omega arith))))
+    (λ (later : low + y .length ≤ place). let r = covers (low + y .length) high xs (t .1) place later b in (r .0, (inr (r .1 .0), r .1 .1)))
+    (cases-lt place (low + y .length))
+
+pub pieces-cover : (plan : Plan) (place : ℕ) → plan .begin ≤ place → place < endOf plan → (x : Placed) × (Stands (piecesOf plan) x × Holds x place)
+pieces-cover plan place a b = covers (plan .begin) (endOf plan) (piecesOf plan) (pieces-fit plan .touching) place a b
 
 pub pieces-between : (plan : Plan) → Between (plan .begin) (endOf plan) (piecesOf plan)
 pieces-between plan = between (plan .begin) (endOf plan) (piecesOf plan) (pieces-fit plan .touching)

@@ -3,7 +3,7 @@ use mathlib.Core.Path.{_≡_}
 use mathlib.Core.Bool.{Bool, cond, _&&_}
 use mathlib.Core.List.{List, [], _∷_}
 use mathlib.Core.Logic.{_⊎_}
-use Prim.Native.Nat.{ℕ, _+_, _*_, _≤_, _<_}
+use Prim.Native.Nat.{ℕ, _+_, _-_, _*_, _≤_, _<_}
 use lib.Dec.{ltb}
 use lib.ListN.{getD, length, take, drop}
 use denote.Ref.{RefT, now}
@@ -40,14 +40,6 @@ Disjoint ps = (x y : Placed) (place : ℕ) → Stands ps x → Stands ps y → H
 -- every piece lies between two places
 abbrev pub Between : ℕ → ℕ → List Placed → Type 0
 Between low high ps = (x : Placed) → Stands ps x → (low ≤ x .place) × (x .place + x .length ≤ high)
-
--- a piece exists exactly where element, level and slice are in range; two different pieces share no byte; all lie in the file;
--- each byte of the pixel data lies in a piece
-pub record Tiled (layout : Layout) : Type 0 where
-  pub exists : (p : Piece) → Exists (planIn (layout .table)) p → (x : Placed) × (Stands (piecesIn layout) x × (x .piece ≡ p))
-  pub only : (x : Placed) → Stands (piecesIn layout) x → Exists (planIn (layout .table)) (x .piece)
-  pub disjoint : Disjoint (piecesIn layout)
-  pub inside : Between (layout .table .«pixel_begin») (layout .table .length) (piecesIn layout)
 
 -- a piece's place by a table's numbers: behind the elements before its own, the levels before its own and the slices before it
 abbrev pub placeWith : Table → Level → Piece → ℕ
@@ -91,6 +83,18 @@ Owner layout place None = (x : Placed) → Stands (piecesIn layout) x → Holds 
 abbrev pub WhoseIs : Layout → ℕ → Result (Option (Piece × ℕ)) Refusal → Type 0
 WhoseIs layout place (Ok o) = (place < layout .table .length) × Owner layout place o
 WhoseIs layout place (Err e) = (e ≡ PastFileEnd) × (layout .table .length ≤ place)
+
+-- what holds of every layout: a piece exists exactly where element, level and slice are in range; two different pieces share no
+-- byte; all lie in the file; each byte of the pixel data lies in a piece; and the bytes of each piece lead to it
+pub record Tiled (layout : Layout) : Type 0 where
+  pub exists : (p : Piece) → Exists (planIn (layout .table)) p → (x : Placed) × (Stands (piecesIn layout) x × (x .piece ≡ p))
+  pub only : (x : Placed) → Stands (piecesIn layout) x → Exists (planIn (layout .table)) (x .piece)
+  pub disjoint : Disjoint (piecesIn layout)
+  pub inside : Between (layout .table .«pixel_begin») (layout .table .length) (piecesIn layout)
+  pub covered : (place : ℕ) → layout .table .«pixel_begin» ≤ place → place < layout .table .«pixel_end»
+      → (x : Placed) × (Stands (piecesIn layout) x × Holds x place)
+  pub leads : (x : Placed) (place : ℕ) → Stands (piecesIn layout) x → Holds x place
+      → (r : Result (Option (Piece × ℕ)) Refusal) → WhoseIs layout place r → r ≡ Ok (Some (x .piece, place - x .place))
 
 -- the bytes of a piece, as a part of a file of the layout's length
 abbrev pub Shown : Layout → List ℕ → Piece → Result (RefT (List ℕ)) Refusal → Type 0
