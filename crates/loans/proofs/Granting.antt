@@ -104,7 +104,7 @@ module _ {s : Job} {here there : Layout} {l r : Ledger} {p : Piece} {who : ℕ} 
       let m : s .layout .table .length ≡ there .table .length = ap (λ (x : Layout). x .table .length) (sym (g .thereIs)) in
       let fits = area-inside here p a (g .tiled) (g .areaOf) in
       let inside : Inside (there .table .length) l =
-          subst (λ k. Inside k l) m (subst (λ (x : Ledger). Inside (s .layout .table .length) x) (sym (g .ledgerIs)) (s .inside)) in
+      subst (λ k. Inside k l) m (subst (λ (x : Ledger). Inside (s .layout .table .length) x) (sym (g .ledgerIs)) (s .inside)) in
       subst (λ (x : Ledger). Inside (there .table .length) x) (sym (g .resultIs))
       (grant-inside l (g .balanced) (g .room) p who a (there .table .length) inside (omega arith) (g .areaOf .length))
 
@@ -119,9 +119,8 @@ module _ {s : Job} {here there : Layout} {l r : Ledger} {p : Piece} {who : ℕ} 
       let room = subst (λ (x : Ledger). x .out < 32) (g .ledgerIs) (g .room) in
       let numbers = subst (λ (x : Ledger). x .granted < 65535) (g .ledgerIs) (g .numbers) in
       let is : t .ledger ≡ ledgerWith (s .ledger) p who (areaIn (s .layout .table) p) =
-          ledger ∙ g .resultIs ∙ (λ i. ledgerWith (g .ledgerIs i) p who (area i)) in
-      let more = ap outs is ∙ grant-outs (s .ledger) (s .balanced) room p who (areaIn (s .layout .table) p) in
-      (
+      ledger ∙ g .resultIs ∙ (λ i. ledgerWith (g .ledgerIs i) p who (area i)) in
+      let more = ap outs is ∙ grant-outs (s .ledger) (s .balanced) room p who (areaIn (s .layout .table) p) in (
         grants s p exists free room numbers,
         ap (λ (x : Ledger). x .granted) (g .resultIs) ∙ ap (λ (x : Ledger). x .granted + 1) (g .ledgerIs),
         λ i. record {

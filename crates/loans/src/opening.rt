@@ -47,7 +47,12 @@ impl Job {
 
     // Opens a file with a family that is handed in, whatever the job held. Refuses as Layout::read_with does, and then changes
     // nothing.
-    pub fn open_with<F: Family>(&mut self, file: &[u8], number: u32, family: &F) -> Result<Docket, Refusal>
+    pub fn open_with<F: Family>(
+        &mut self,
+        file: &[u8],
+        number: u32,
+        family: &F,
+    ) -> Result<Docket, Refusal>
         ensures { λ r. ⌜ OpenedWith (now (file .entry)) number (rowBytes (now (family .entry))) (rows (now (family .entry))) (now (self .entry)) r (now (self .exit)) ⌝ }
     {
         match Layout::read_with(head_of(file), file.len() as u64, family) {
@@ -60,7 +65,12 @@ impl Job {
     }
 
     // Opens a file by the format that its header names, with a table of the codes other than DX10.
-    pub fn open<T: CodeTable>(&mut self, file: &[u8], number: u32, codes: &T) -> Result<Docket, Refusal>
+    pub fn open<T: CodeTable>(
+        &mut self,
+        file: &[u8],
+        number: u32,
+        codes: &T,
+    ) -> Result<Docket, Refusal>
         ensures { λ r. ⌜ OpenedWithCodes (now (file .entry)) number (nameAt (now (codes .entry))) (now (self .entry)) r (now (self .exit)) ⌝ }
     {
         let layout = Layout::read(head_of(file), file.len() as u64, codes)?;

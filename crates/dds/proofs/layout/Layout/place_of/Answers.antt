@@ -26,10 +26,13 @@ returns-then-piece-table c =
     let b = ap (λ (x : Level). x .slices) (c .in-Some .ensures tt .1) in
     let either = c .then-piece-table .either in
     record {
-      value = (refl, λ h.
-          (let e = h .0 in
-          let s = h .2 in
-          ⊎-elim (λ x. omega arith) (λ x. (let y = x .1 in omega arith)) either));
+      value = (
+        refl,
+        λ h.
+            (let e = h .0 in
+            let s = h .2 in
+            ⊎-elim (λ x. omega arith) (λ x. (let y = x .1 in omega arith)) either),
+      );
       exact = (let out : existsIn (c .args .self .now .table) (c .args .piece) ≡ false = grind (arith, tells) in sym (cond-false _ _ _ out));
       tiled = tiled (c .args .self .now);
     }
