@@ -10,6 +10,11 @@ use dds::Area;
 use dds::Piece;
 use refusal::Refusal;
 
+// How many loans can be out, and how many numbers a job gives.
+const MOST_OUT: u32 = 32;
+
+const MOST_GRANTED: u32 = 65535;
+
 fn is_same(a: Piece, b: Piece) -> bool
     ensures { λ r. ⌜ r ≡ samePiece a b ⌝ }
 {
@@ -71,10 +76,10 @@ impl Job {
         if is_out(ledger.outs(), piece) {
             return Err(Refusal::PieceOut);
         }
-        if ledger.out >= 32 {
+        if ledger.out >= MOST_OUT {
             return Err(Refusal::TooManyLoans);
         }
-        if ledger.granted >= 65535 {
+        if ledger.granted >= MOST_GRANTED {
             return Err(Refusal::NumbersUsedUp);
         }
         let granted = ledger.with_loan(piece, borrower, area);

@@ -17,8 +17,8 @@ of-requires c κs = record {
         areaOf = c .in-Continue-area .ensures tt .value;
         found = c .in-Continue-area .ensures tt .exact;
         free = sym (ap (λ (ls : List Loan). pieceIsOut ls (c .args .piece)) (c .outs .ensures)) ∙ sym (c .is-out .ensures) ∙ c .if-is-out .left;
-        room = c .if-ledger-ge32 .left;
-        numbers = c .if-ledger-ge65535 .left;
+        room = c .if-ledger-ge-MOST-OUT .left;
+        numbers = c .if-ledger-ge-MOST-GRANTED .left;
         resultIs = c .with-loan-granted .ensures;
       });
   inside = granted-inside {s = c .args .self .now}
@@ -31,8 +31,8 @@ of-requires c κs = record {
         areaOf = c .in-Continue-area .ensures tt .value;
         found = c .in-Continue-area .ensures tt .exact;
         free = sym (ap (λ (ls : List Loan). pieceIsOut ls (c .args .piece)) (c .outs .ensures)) ∙ sym (c .is-out .ensures) ∙ c .if-is-out .left;
-        room = c .if-ledger-ge32 .left;
-        numbers = c .if-ledger-ge65535 .left;
+        room = c .if-ledger-ge-MOST-OUT .left;
+        numbers = c .if-ledger-ge-MOST-GRANTED .left;
         resultIs = c .with-loan-granted .ensures;
       });
 }
@@ -49,8 +49,8 @@ returns c =
       areaOf = c .in-Continue-area .ensures tt .value;
       found = c .in-Continue-area .ensures tt .exact;
       free = sym (ap (λ (ls : List Loan). pieceIsOut ls (c .args .piece)) (c .outs .ensures)) ∙ sym (c .is-out .ensures) ∙ c .if-is-out .left;
-      room = c .if-ledger-ge32 .left;
-      numbers = c .if-ledger-ge65535 .left;
+      room = c .if-ledger-ge-MOST-OUT .left;
+      numbers = c .if-ledger-ge-MOST-GRANTED .left;
       resultIs = c .with-loan-granted .ensures;
     })
     (c .of .result) (c .of .ensures .layout) (c .of .ensures .ledger)
