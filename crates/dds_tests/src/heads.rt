@@ -1,19 +1,21 @@
 // Heads of files, made from words.
 use crate::expected::BASES;
-use crate::expected::Changes;
+use crate::expected::CHANGES;
 use std::alloc::Global;
 use std::test::*;
 
-// The 148 bytes of a base head with some words changed.
-pub fn head_with(heap: Global, base: usize, changes: Changes) -> Result<Vec<u8>, Fail> {
+// The 148 bytes of the head of a line: a base head with the line's changes.
+pub fn head_at(heap: Global, base: usize, line: u32) -> Result<Vec<u8>, Fail> {
     let Some(words) = BASES.get(base) else {
         return Err(Fail::new("no such base"));
     };
     let mut words = *words;
-    for (place, value) in changes {
-        let word = (*place / 4) as usize;
-        check(word < 37)?;
-        words[word] = *value;
+    for change in &CHANGES {
+        if change.line == line {
+            let word = change.place / 4;
+            check(word < 37)?;
+            words[word] = change.value;
+        }
     }
     let mut head = Vec::new(heap);
     for word in words {

@@ -1,18 +1,14 @@
 // The crate dds against values that were computed outside of it.
+use crate::expected::BYTES;
 use crate::expected::Case;
-use crate::expected::ELEMENTS;
-use crate::expected::ENDS;
-use crate::expected::FAULTS_AT_ONCE;
-use crate::expected::FORMATS;
-use crate::expected::HEADERS;
-use crate::expected::LEVEL_COUNTS;
+use crate::expected::HEADERS_AND_FORMATS;
+use crate::expected::LEVELS_AND_ENDS;
 use crate::expected::SAMPLES;
-use crate::expected::SHAPES;
-use crate::expected::SIDES;
+use crate::expected::SHAPES_AND_SIDES;
+use crate::expected::SPOTS;
 use crate::expected::Sample;
 use crate::expected::Spot;
-use crate::expected::VOLUME_SIDES;
-use crate::heads::head_with;
+use crate::heads::head_at;
 use dds::Area;
 use dds::AreaDebug;
 use dds::AreaPartialEq;
@@ -50,19 +46,20 @@ fn number_of(answer: Result<Layout, Refusal>) -> u32 {
     }
 }
 
+// Both answers, each with the line's number, so that a failure tells its line.
 fn check_case(head: &[u8], case: &Case) -> Result<(), Fail> {
     let Some(format) = Format::named(case.format) else {
         return Err(Fail::new("a size of the rules is refused"));
     };
     let read = number_of(Layout::read(head, case.length, &BuiltInCodes));
-    check_eq(read, case.number).note(case.what)?;
+    check_eq((case.line, read), (case.line, case.number))?;
     let handed = number_of(Layout::read_with(head, case.length, &format));
-    check_eq(handed, case.handed).note(case.what)
+    check_eq((case.line, handed), (case.line, case.handed))
 }
 
 fn check_cases(rt: &LibcRuntime, cases: &[Case]) -> Result<(), Fail> {
     for case in cases {
-        let head = head_with(rt.alloc(), case.base, case.changes)?;
+        let head = head_at(rt.alloc(), case.base, case.line)?;
         if case.length < 148 {
             check_case(&head[0..(case.length as usize).min(head.len())], case)?;
         } else {
@@ -73,77 +70,62 @@ fn check_cases(rt: &LibcRuntime, cases: &[Case]) -> Result<(), Fail> {
 }
 
 #[test]
-fn headers(rt: LibcRuntime) -> Result<(), Fail> {
-    check_cases(&rt, &HEADERS)
+fn headers_and_formats(rt: LibcRuntime) -> Result<(), Fail> {
+    check_cases(&rt, &HEADERS_AND_FORMATS)
 }
 
 #[test]
-fn formats_of_headers(rt: LibcRuntime) -> Result<(), Fail> {
-    check_cases(&rt, &FORMATS)
+fn shapes_and_sides(rt: LibcRuntime) -> Result<(), Fail> {
+    check_cases(&rt, &SHAPES_AND_SIDES)
 }
 
 #[test]
-fn shapes(rt: LibcRuntime) -> Result<(), Fail> {
-    check_cases(&rt, &SHAPES)
-}
-
-#[test]
-fn sides(rt: LibcRuntime) -> Result<(), Fail> {
-    check_cases(&rt, &SIDES)
-}
-
-#[test]
-fn sides_of_volumes(rt: LibcRuntime) -> Result<(), Fail> {
-    check_cases(&rt, &VOLUME_SIDES)
-}
-
-#[test]
-fn elements(rt: LibcRuntime) -> Result<(), Fail> {
-    check_cases(&rt, &ELEMENTS)
-}
-
-#[test]
-fn level_counts(rt: LibcRuntime) -> Result<(), Fail> {
-    check_cases(&rt, &LEVEL_COUNTS)
-}
-
-#[test]
-fn ends(rt: LibcRuntime) -> Result<(), Fail> {
-    check_cases(&rt, &ENDS)
-}
-
-#[test]
-fn faults_at_once(rt: LibcRuntime) -> Result<(), Fail> {
-    check_cases(&rt, &FAULTS_AT_ONCE)
+fn levels_and_ends(rt: LibcRuntime) -> Result<(), Fail> {
+    check_cases(&rt, &LEVELS_AND_ENDS)
 }
 
 fn check_spot(layout: &Layout, spot: &Spot) -> Result<(), Fail> {
-    let piece = piece_of(spot.piece);
-    check_eq(layout.piece_number(spot.number), Some(piece))?;
+    check_eq(layout.piece_number(spot.number), Some(spot.piece))?;
     let area = Area {
         place: spot.place,
         length: spot.length,
         row_bytes: spot.row_bytes,
         rows: spot.rows,
     };
-    check_eq(layout.place_of(piece), Ok(area))?;
-    let (width, height) = spot.sides;
-    match layout.row_of(piece) {
-        Ok(row) => check(row.width == width && row.height == height),
+    check_eq(layout.place_of(spot.piece), Ok(area))?;
+    match layout.row_of(spot.piece) {
+        Ok(row) => check_eq((row.width, row.height), (spot.width, spot.height)),
         Err(_) => Err(Fail::new("no row")),
     }
 }
 
+fn check_spots(layout: &Layout, line: u32) -> Result<(), Fail> {
+    for spot in &SPOTS {
+        if spot.line == line {
+            check_spot(layout, spot)?;
+        }
+    }
+    Ok(())
+}
+
+fn check_bytes(layout: &Layout, line: u32) -> Result<(), Fail> {
+    for byte in &BYTES {
+        if byte.line == line {
+            let owner = Owner::Byte(byte.piece, byte.offset);
+            check_eq(layout.owner_of(byte.place), Ok(owner))?;
+        }
+    }
+    Ok(())
+}
+
 fn check_layout(layout: &Layout, sample: &Sample) -> Result<(), Fail> {
-    check_eq(layout.piece_count(), sample.pieces)?;
+    check_eq(
+        (sample.line, layout.piece_count()),
+        (sample.line, sample.pieces),
+    )?;
     check_eq(layout.piece_number(sample.pieces), None)?;
-    for spot in sample.spots {
-        check_spot(layout, spot)?;
-    }
-    for (place, piece, offset) in sample.bytes {
-        let owner = Owner::Byte(piece_of(*piece), *offset);
-        check_eq(layout.owner_of(*place), Ok(owner))?;
-    }
+    check_spots(layout, sample.line)?;
+    check_bytes(layout, sample.line)?;
     check_eq(layout.owner_of(0), Ok(Owner::Nobody))?;
     check_eq(
         layout.owner_of(sample.begin.saturating_sub(1)),
@@ -156,10 +138,10 @@ fn check_layout(layout: &Layout, sample: &Sample) -> Result<(), Fail> {
 #[test]
 fn layouts_of_every_shape(rt: LibcRuntime) -> Result<(), Fail> {
     for sample in &SAMPLES {
-        let head = head_with(rt.alloc(), sample.base, sample.changes)?;
+        let head = head_at(rt.alloc(), sample.base, sample.line)?;
         match Layout::read(&head, sample.length, &BuiltInCodes) {
-            Ok(layout) => check_layout(&layout, sample).note(sample.what)?,
-            Err(_) => return Err(Fail::new(sample.what)),
+            Ok(layout) => check_layout(&layout, sample)?,
+            Err(_) => return Err(Fail::new("a sample is refused")),
         }
     }
     Ok(())
@@ -186,7 +168,7 @@ fn check_part(part: &[u8], first: u64, length: usize) -> Result<(), Fail> {
 // A volume of 5 by 3 by 6 with three levels of 24 bits: 6 slices of 45 bytes, 3 of 6 and 1 of 3, behind 128 bytes.
 #[test]
 fn bytes_of_pieces(rt: LibcRuntime) -> Result<(), Fail> {
-    let mut file = head_with(rt.alloc(), 2, &[])?;
+    let mut file = head_at(rt.alloc(), 2, 0)?;
     file.truncate(128);
     let mut byte = 128u8;
     for _ in 128..419 {
