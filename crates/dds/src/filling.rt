@@ -37,7 +37,7 @@ fn level_of<F: Family>(family: &F, sides: Sides, begin: u64) -> Level
 }
 
 // The levels of an element whose first has these sides. The family is asked once for each level, at the level's own sides.
-pub fn chain_of<F: Family>(family: &F, first: Sides, count: u32) -> Chain
+pub(crate) fn chain_of<F: Family>(family: &F, first: Sides, count: u32) -> Chain
     requires { ⌜ InRange first ⌝ ∗ ⌜ count ≤ 15 ⌝ }
     ensures { λ r. ⌜ IsChain (rowBytes (now (family .entry))) (rows (now (family .entry))) first count r ⌝ }
 {

@@ -7,7 +7,7 @@ use crate::level::Level;
 
 // Where the elements that are left end, if the first of them begins at the place: behind an element's last level comes the
 // first level of the next element.
-pub fn element_step(levels: &[Level], elements_left: u64, place: u64) -> u64
+pub(crate) fn element_step(levels: &[Level], elements_left: u64, place: u64) -> u64
     requires { ⌜ place + «elements_left» * totalOf (now levels) < 2 ^ 64 ⌝ }
     ensures { λ r. ⌜ r ≡ place + «elements_left» * totalOf (now (levels .entry)) ⌝ }
 {

@@ -5,7 +5,7 @@ use std::alloc::Global;
 use std::test::*;
 
 // The 148 bytes of the head of a line: a base head with the line's changes.
-pub fn head_at(heap: Global, base: usize, line: u32) -> Result<Vec<u8>, Fail> {
+pub(crate) fn head_at(heap: Global, base: usize, line: u32) -> Result<Vec<u8>, Fail> {
     let Some(words) = BASES.get(base) else {
         return Err(Fail::new("no such base"));
     };

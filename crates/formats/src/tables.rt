@@ -52,7 +52,7 @@ pub impl Line for CodeRow as CodeRowLine {
 }
 
 // The format that a table gives a code, if any.
-pub fn format_in<L: Line>(lines: &[L], code: u32) -> Option<Format>
+pub(crate) fn format_in<L: Line>(lines: &[L], code: u32) -> Option<Format>
     ensures { λ r. ⌜ mapped nameOf r ≡ admittedOf (nameIn (map means (now (lines .entry))) code) ⌝ }
 {
     Format::named(find(lines, code)?)

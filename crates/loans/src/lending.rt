@@ -35,7 +35,7 @@ fn is_out(loans: &[Loan], piece: Piece) -> bool
 
 impl Ledger {
     // The loans out, in the order in which they were granted.
-    pub fn outs(&self) -> &[Loan]
+    pub(crate) fn outs(&self) -> &[Loan]
         requires { ⌜ Balanced (now self) ⌝ }
         ensures { λ r. ⌜ now r ≡ outs (now (self .entry)) ⌝ }
     {
