@@ -66,7 +66,7 @@ fn place_in(table: &Table, level: &Level, piece: Piece) -> u64
 }
 
 impl Layout {
-    // A level of the table, if there is one of that number. All look-ups go through here.
+    // A level of the table, if there is one of that number.
     pub fn level(&self, number: u32) -> Option<Level>
         ensures { λ r. ⌜ Cases r (now (self .entry) .table .«level_count» ≤ number) (λ l. (number < now (self .entry) .table .«level_count») × (l ≡ getD (now (self .entry) .table .levels) number blank)) ⌝ }
     {
