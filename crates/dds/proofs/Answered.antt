@@ -1,5 +1,5 @@
 -- From the steps of opening a file to what opening answers.
-use Rattle.std.proofs.Common.{◌≡◌, ℕ, ◌≤◌, true, false, cond, not, ◌&&◌, ◌||◌, eqb, ltb, List, Some, None, Ok, Err, Option, Result, sym, refl, ap, ◌∙◌, subst, ⊎_elim, arith}
+use Rattle.std.proofs.Common.{◌≡◌, ℕ, ◌≤◌, List, Some, None, Ok, Err, Option, Result, sym, ap, ◌∙◌, subst, arith}
 use Rattle.std.proofs.lemmas.Bool.Decides.{nat_tests}
 use Rattle.refusal.specs.declared.Refusal.{Refusal}
 use Rattle.dds.specs.declared.header.Header.{Header}
@@ -8,8 +8,8 @@ use Rattle.dds.specs.declared.shape.Shape.{Shape}
 use Rattle.dds.specs.Headers.{header_of, header_read}
 use Rattle.dds.specs.Shapes.{shape_of, shape_read}
 use Rattle.dds.specs.Plans.{plan_of}
-use Rattle.dds.specs.Pieces.{Placed, FitsPlan, pieces_of}
-use Rattle.dds.specs.Layouts.{Fits, LaidOut, Opened, Accepted, Turned, refusal_of, err_of, first_of, pieces_in, TableOf}
+use Rattle.dds.specs.Pieces.{Placed, FitsPlan}
+use Rattle.dds.specs.Layouts.{Fits, LaidOut, Opened, Turned, refusal_of, err_of, first_of, pieces_in, TableOf}
 use Rattle.dds.proofs.Fitting.{fits_only}
 use Rattle.dds.proofs.Shaped.{shape_is}
 

@@ -1,9 +1,9 @@
 -- A plan has one list of pieces that fits, and it ends where the plan does.
 use Rattle.std.proofs.Common.{◌≡◌, ℕ, zero, suc, ◌+◌, ◌*◌, ◌<◌, ◌≤◌, ◌⊎◌, List, [], ◌∷◌, ◌++◌, sym, refl, ap, ◌∙◌, subst, inl, inr, ⊎_elim, add-zero, add_assoc, add-suc, suc-mul, suc-add, zero-add, arith}
-use Rattle.std.proofs.lemmas.Bool.{cases_order, cases_lt}
+use Rattle.std.proofs.lemmas.Bool.{cases_order}
 use Rattle.dds.specs.declared.piece.Piece.{Piece}
 use Rattle.dds.specs.Plans.{Plan, begin_at, stride_of, end_of}
-use Rattle.dds.specs.Pieces.{Placed, Exists, Before, Lists, Rising, Sized, Touching, FitsPlan, slices_from, levels_from, elements_from, pieces_of}
+use Rattle.dds.specs.Pieces.{Placed, Before, Lists, Rising, Sized, Touching, FitsPlan, slices_from, levels_from, elements_from, pieces_of}
 
 lists_left : (xs ys : List Placed) (p : Piece) → Lists xs p → Lists (xs ++ ys) p
 lists_left [] ys p h = elim h [ ]

@@ -1,26 +1,24 @@
 -- The measured files.
-use Rattle.std.proofs.Common.{◌≡◌, ℕ, ◌+◌, ◌-◌, ◌*◌, ◌<◌, ◌≤◌, max, Bool, true, false, cond, not, ◌&&◌, ltb, List, length, Some, None, Ok, Err, Option, Result, sym, refl, ap, ◌∙◌, subst, ⊎_elim, arith, lit<}
+use Rattle.std.proofs.Common.{◌≡◌, ℕ, ◌+◌, ◌*◌, ◌<◌, ◌≤◌, max, Bool, true, false, not, ◌&&◌, ltb, List, length, Some, None, Ok, Err, Option, Result, sym, refl, ap, ◌∙◌, subst, arith, lit<}
 use Rattle.std.proofs.lemmas.Bool.{cond-true, cond-false, and_parts, not-true, not_from_true, not_from_false}
 use Rattle.std.proofs.lemmas.Bool.Decides.{nat_tests}
 use Rattle.refusal.specs.declared.Refusal.{Refusal}
 use Rattle.refusal.specs.declared.Refusal.TheVariants.{OutOfRange, TooManyLevels, WrongEnd, PastFileEnd}
 use Rattle.formats.specs.declared.kinds.FormatName.{FormatName}
-use Rattle.formats.specs.declared.kinds.FormatName.TheVariants.{Linear, Block}
 use Rattle.formats.specs.Codes.{name_for, plain_rows}
 use Rattle.formats.specs.Extents.{row_bytes_of, rows_of}
 use Rattle.dds.specs.declared.header.Header.{Header}
 use Rattle.dds.specs.declared.layout.Layout.{Layout}
 use Rattle.dds.specs.declared.piece.Piece.{Piece}
 use Rattle.dds.specs.declared.shape.Shape.{Shape}
-use Rattle.dds.specs.declared.shape.Shape.TheVariants.{Flat, Cube, Volume}
-use Rattle.dds.specs.Headers.{header_of, header_read, header_name}
+use Rattle.dds.specs.Headers.{header_of, header_read}
 use Rattle.dds.specs.Levels.{levels_of, side_at, longest_chain}
 use Rattle.dds.specs.Shapes.{shape_of, elements_of, depth_of, limit_of, within, is_in_range, largest_side, judged, shape_read}
 use Rattle.dds.specs.Plans.{Plan, plan_of, size_at, end_of, stride_of, begin_at}
 use Rattle.dds.specs.Pieces.{Placed, FitsPlan, Exists, pieces_of}
-use Rattle.dds.specs.Layouts.{Fits, Opened, OpenedAs, OpenedIn, OpenedBy, Accepted, Turned, refusal_of, first_of, err_of, pieces_in}
-use Rattle.dds.specs.Places.{Stands, Holds, WhoseIs, Owner}
-use Rattle.dds.specs.Figures.{Says, Answers, AcceptedWith, Opens, Whose, Figures, level_of}
+use Rattle.dds.specs.Layouts.{Fits, Opened, OpenedAs, OpenedIn, OpenedBy, Turned, refusal_of, first_of, err_of, pieces_in}
+use Rattle.dds.specs.Places.{Stands}
+use Rattle.dds.specs.Figures.{Says, AcceptedWith, Whose, Figures, level_of}
 use Rattle.dds.proofs.Fitting.{pieces_fit, fits_only}
 use Rattle.dds.proofs.Tiles.{piece_stands, pieces_between}
 use Rattle.dds.proofs.Placing.{tiled}

@@ -1,17 +1,15 @@
 -- What the steps of laying out a file come to.
-use Rattle.std.proofs.Common.{◌≡◌, ℕ, ◌+◌, ◌-◌, ◌*◌, ◌^◌, ◌<◌, ◌≤◌, take, sym, refl, ap, ◌∙◌, subst, arith}
+use Rattle.std.proofs.Common.{◌≡◌, ℕ, ◌+◌, ◌-◌, ◌*◌, ◌^◌, ◌<◌, ◌≤◌, take, refl, ap, ◌∙◌, subst, arith}
 use Rattle.std.proofs.lemmas.Nat.{mul-le}
 use Rattle.std.proofs.lemmas.Bool.Decides.{nat_tests}
 use Rattle.dds.specs.declared.header.Header.{Header}
 use Rattle.dds.specs.declared.shape.Shape.{Shape}
 use Rattle.dds.specs.declared.table.Chain.{Chain}
-use Rattle.dds.specs.declared.table.Sides.{Sides}
-use Rattle.dds.specs.declared.table.Table.{Table}
 use Rattle.dds.specs.LevelEnds.{total_of}
-use Rattle.dds.specs.Levels.{levels_of, side_at}
+use Rattle.dds.specs.Levels.{levels_of}
 use Rattle.dds.specs.Shapes.{elements_of, depth_of}
-use Rattle.dds.specs.Plans.{plan_of, pixel_begin, size_at, begin_at, stride_of, end_of}
-use Rattle.dds.specs.Tables.{IsChain, InRange}
+use Rattle.dds.specs.Plans.{plan_of, pixel_begin, stride_of}
+use Rattle.dds.specs.Tables.{IsChain}
 use Rattle.dds.specs.Layouts.{sides_of, TableOf}
 use Rattle.dds.proofs.Begins.{Lawful, begin_few}
 use Rattle.dds.proofs.Shaped.{Shaped}

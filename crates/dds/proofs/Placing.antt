@@ -1,17 +1,15 @@
 -- Where the pieces of a sound table stand.
-use Rattle.std.proofs.Common.{◌≡◌, ℕ, zero, suc, ◌+◌, ◌-◌, ◌*◌, ◌<◌, ◌≤◌, true, get_or, Some, None, Ok, Err, Option, Result, sym, refl, ap, ◌∙◌, subst, arith}
+use Rattle.std.proofs.Common.{◌≡◌, ℕ, ◌+◌, ◌-◌, ◌*◌, ◌<◌, ◌≤◌, true, get_or, Some, None, Ok, Err, Option, Result, sym, ap, ◌∙◌, subst, arith}
 use Rattle.refusal.specs.declared.Refusal.{Refusal}
 use Rattle.std.proofs.lemmas.Bool.{cond-true}
 use Rattle.std.proofs.lemmas.Bool.Decides.{nat_tests}
-use Rattle.dds.specs.declared.area.Area.{Area}
 use Rattle.dds.specs.declared.layout.Layout.{Layout}
 use Rattle.dds.specs.declared.level.Level.{Level}
 use Rattle.dds.specs.declared.piece.Piece.{Piece}
 use Rattle.dds.specs.declared.table.Table.{Table}
-use Rattle.dds.specs.Plans.{begin_at, stride_of, end_of}
 use Rattle.dds.specs.LevelEnds.{piece_length}
 use Rattle.dds.specs.Pieces.{Placed, Exists, pieces_of}
-use Rattle.dds.specs.Sound.{plan_in, slices_in, size_in, Counted, Chained, Ended}
+use Rattle.dds.specs.Sound.{plan_in, size_in, Chained, Ended}
 use Rattle.dds.specs.Tables.{blank}
 use Rattle.dds.specs.Places.{place_with, exists_in, where_in, Stands, Holds, WhoseIs, Tiled, AreaOf}
 use Rattle.dds.specs.Layouts.{pieces_in}

@@ -1,5 +1,5 @@
 -- From a byte's offset in its element to its level, slice and offset there, by the numbers of a sound table.
-use Rattle.std.proofs.Common.{◌≡◌, ℕ, zero, suc, ◌+◌, ◌-◌, ◌*◌, ◌/◌, ◌%◌, ◌<◌, ◌≤◌, ◌⊎◌, get_or, sym, refl, ap, ◌∙◌, subst, inl, inr, ⊎_elim, le_refl, suc-add, div-add-mod', zero-add, add-one, arith}
+use Rattle.std.proofs.Common.{◌≡◌, ℕ, zero, suc, ◌+◌, ◌-◌, ◌*◌, ◌/◌, ◌%◌, ◌<◌, ◌≤◌, ◌⊎◌, get_or, sym, refl, ap, ◌∙◌, subst, ⊎_elim, le_refl, suc-add, div-add-mod', zero-add, add-one, arith}
 use Rattle.std.proofs.lemmas.Nat.{div_below, mod_below, mul-le}
 use Rattle.std.proofs.lemmas.Bool.{cases_order}
 use Rattle.dds.specs.declared.piece.Piece.{Piece}
@@ -8,7 +8,7 @@ use Rattle.dds.specs.declared.table.Table.{Table}
 use Rattle.dds.specs.Plans.{begin_at, stride_of}
 use Rattle.dds.specs.Sound.{slices_in, size_in, plan_in, Counted, Chained, Ended}
 use Rattle.dds.specs.Tables.{blank}
-use Rattle.dds.specs.Pieces.{Placed, Exists, pieces_of}
+use Rattle.dds.specs.Pieces.{Placed, pieces_of}
 use Rattle.dds.specs.Places.{Stands, Holds}
 use Rattle.dds.specs.Spots.{SpotOf}
 use Rattle.dds.proofs.Placing.{entry_in, entry_stands}

@@ -1,5 +1,5 @@
 -- A file's table has the plan of its header.
-use Rattle.std.proofs.Common.{◌≡◌, ℕ, zero, suc, ◌+◌, ◌*◌, ◌<◌, ◌≤◌, true, cond, ltb, ◌⊎◌, List, [], ◌∷◌, ◌++◌, length, get_or, take, sym, refl, ap, ◌∙◌, subst, inl, inr, ⊎_elim, add-zero, add_assoc, zero-add, add-one, arith}
+use Rattle.std.proofs.Common.{◌≡◌, ℕ, zero, suc, ◌+◌, ◌*◌, ◌<◌, ◌≤◌, ltb, List, [], ◌∷◌, ◌++◌, length, get_or, take, sym, refl, ap, ◌∙◌, subst, inl, inr, add-zero, add_assoc, zero-add, add-one, arith}
 use Rattle.std.proofs.lemmas.List.{take_more}
 use Rattle.std.proofs.lemmas.Bool.{lt-ltb, cond-true}
 use Rattle.dds.specs.declared.header.Header.{Header}
@@ -13,7 +13,7 @@ use Rattle.dds.specs.LevelEnds.{piece_length, total_of}
 use Rattle.dds.specs.Levels.{levels_of, side_at}
 use Rattle.dds.specs.Plans.{Plan, plan_of, size_at, begin_at, stride_of, end_of}
 use Rattle.dds.specs.Tables.{level_at, blank, IsChain}
-use Rattle.dds.specs.Pieces.{Placed, Exists, Lists, Sized, Touching, FitsPlan, pieces_of}
+use Rattle.dds.specs.Pieces.{Placed, Lists, Sized, Touching, FitsPlan, pieces_of}
 use Rattle.dds.specs.Sound.{slices_in, size_in, plan_in, Counted, Chained, Ended}
 use Rattle.dds.specs.Layouts.{sides_of, TableOf}
 use Rattle.dds.proofs.Begins.{Lawful, size_some}

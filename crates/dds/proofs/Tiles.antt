@@ -1,6 +1,6 @@
 -- The pieces of a layout: where each stands, and that no two share a byte.
-use Rattle.std.proofs.Common.{◌≡◌, ℕ, zero, suc, ◌+◌, ◌*◌, ◌<◌, ◌≤◌, ◌⊎◌, List, [], ◌∷◌, ◌++◌, sym, refl, ap, ◌∙◌, subst, inl, inr, ⊎_elim, add-zero, add_assoc, add-suc, suc-mul, suc-add, zero-add, arith}
-use Rattle.std.proofs.lemmas.Bool.{cases_order, cases_lt}
+use Rattle.std.proofs.Common.{◌≡◌, ℕ, zero, suc, ◌+◌, ◌*◌, ◌<◌, ◌≤◌, List, [], ◌∷◌, ◌++◌, sym, refl, ap, ◌∙◌, subst, inl, inr, ⊎_elim, add-zero, add_assoc, add-suc, suc-mul, suc-add, zero-add, arith}
+use Rattle.std.proofs.lemmas.Bool.{cases_lt}
 use Rattle.dds.specs.declared.piece.Piece.{Piece}
 use Rattle.dds.specs.Plans.{Plan, begin_at, stride_of, end_of}
 use Rattle.dds.specs.Pieces.{Placed, Exists, Lists, Touching, slices_from, levels_from, elements_from, pieces_of}

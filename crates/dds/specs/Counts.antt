@@ -1,5 +1,5 @@
 -- The pieces of a file by number, in the order of the file.
-use Rattle.std.specs.Prelude.{◌≡◌, ℕ, zero, suc, ◌+◌, ◌*◌, ◌<◌, ◌≤◌, List, [], ◌∷◌, length, Some, None, Option, slice_index_or}
+use Rattle.std.specs.Prelude.{◌≡◌, ℕ, zero, suc, ◌+◌, ◌<◌, ◌≤◌, List, [], ◌∷◌, Some, None, Option, slice_index_or}
 use Rattle.std.specs.Option.{option_map}
 use Rattle.dds.specs.declared.layout.Layout.{Layout}
 use Rattle.dds.specs.declared.level.Level.{Level}

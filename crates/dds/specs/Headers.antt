@@ -1,5 +1,5 @@
 -- What stands in a DDS header, when a header is refused, and which format it names.
-use Rattle.std.specs.Prelude.{ℕ, ◌+◌, ◌*◌, Bool, cond, not, ◌&&◌, ◌||◌, List, length, Some, None, Ok, Err, Option, Result, ◌==◌, bit_and, nat_le, nat_lt, slice_index}
+use Rattle.std.specs.Prelude.{ℕ, ◌+◌, ◌*◌, Bool, cond, not, ◌&&◌, ◌||◌, List, length, Ok, Err, Option, Result, ◌==◌, bit_and, nat_le, nat_lt, slice_index}
 use Rattle.refusal.specs.declared.Refusal.{Refusal}
 use Rattle.refusal.specs.declared.Refusal.TheVariants.{WrongLength, WrongMagic, WrongHeaderSize, ShortExtendedHeader}
 use Rattle.formats.specs.declared.kinds.FormatName.{FormatName}

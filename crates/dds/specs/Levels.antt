@@ -1,5 +1,5 @@
 -- How many levels there may be, and the sides of each.
-use Rattle.std.specs.Prelude.{ℕ, zero, suc, ◌+◌, ◌*◌, ◌/◌, ◌^◌, ◌<◌, ◌≤◌, max, cond, ◌==◌, nat_le}
+use Rattle.std.specs.Prelude.{ℕ, zero, suc, ◌*◌, ◌/◌, ◌^◌, ◌<◌, ◌≤◌, max, cond, ◌==◌, nat_le}
 use Rattle.dds.specs.declared.header.Header.{Header}
 
 -- a level count of 0 means one level

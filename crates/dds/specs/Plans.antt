@@ -1,8 +1,7 @@
 -- What the rules say of a file's pieces: how many there are of each kind, and how long they are.
-use Rattle.std.specs.Prelude.{◌≡◌, ℕ, zero, suc, ◌+◌, ◌*◌, ◌<◌, cond, ltb, List, length, get_or}
+use Rattle.std.specs.Prelude.{ℕ, zero, suc, ◌+◌, ◌*◌, cond}
 use Rattle.dds.specs.declared.header.Header.{Header}
 use Rattle.dds.specs.declared.shape.Shape.{Shape}
-use Rattle.dds.specs.declared.level.Level.{Level}
 use Rattle.dds.specs.Headers.{is_extended}
 use Rattle.dds.specs.Shapes.{elements_of, depth_of}
 use Rattle.dds.specs.Levels.{levels_of, side_at}

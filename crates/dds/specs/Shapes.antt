@@ -1,5 +1,5 @@
 -- Which shape a header means, and which sizes are in range.
-use Rattle.std.specs.Prelude.{ℕ, ◌*◌, max, Bool, true, false, cond, not, ◌&&◌, ◌||◌, Some, None, Ok, Err, Option, Result, ◌==◌, bit_and, nat_le, nat_lt}
+use Rattle.std.specs.Prelude.{ℕ, ◌*◌, max, Bool, cond, not, ◌&&◌, Some, None, Ok, Err, Option, Result, ◌==◌, bit_and, nat_le, nat_lt}
 use Rattle.refusal.specs.declared.Refusal.{Refusal}
 use Rattle.refusal.specs.declared.Refusal.TheVariants.{NoShape, OutOfRange, TooManyLevels}
 use Rattle.dds.specs.declared.header.Header.{Header}

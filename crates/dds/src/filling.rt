@@ -22,7 +22,7 @@ impl Sides {
 
 // The level that has these sides and begins there.
 fn level_of<F: Family>(family: &F, sides: Sides, begin: u64) -> Level
-    ensures { result ≡ level_with (extent_of (row_bytes family.now) (rows family.now) sides.width sides.height) sides begin }
+    ensures { result ≡ level_with (extent_of (F.row_bytes family.now) (F.rows family.now) sides.width sides.height) sides begin }
 {
     let extent = family.ask(sides.width, sides.height);
     Level {
@@ -38,7 +38,7 @@ fn level_of<F: Family>(family: &F, sides: Sides, begin: u64) -> Level
 // The levels of an element whose first has these sides. The family is asked once for each level, at the level's own sides.
 pub(crate) fn chain_of<F: Family>(family: &F, first: Sides, count: u32) -> Chain
     requires { (InRange first) × (count ≤ 15) }
-    ensures { IsChain (row_bytes family.now) (rows family.now) first count result }
+    ensures { IsChain (F.row_bytes family.now) (F.rows family.now) first count result }
 {
     let mut levels = [Level::BLANK; 15];
     let mut sides = first;

@@ -1,4 +1,6 @@
 // DDS files: the header, the shape, the levels, and where each piece stands.
+#![tactic(auto)]
+
 mod area;
 mod chain;
 mod counts;

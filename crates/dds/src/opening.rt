@@ -25,7 +25,7 @@ impl Header {
 // The table of a file of that length with this header and shape. The walk over its pieces finds where they end.
 fn table_of<F: Family>(header: &Header, shape: Shape, length: u64, family: &F) -> Table
     requires { shape_read header.now ≡ Ok shape }
-    ensures { TableOf header.now shape (row_bytes family.now) (rows family.now) length result }
+    ensures { TableOf header.now shape (F.row_bytes family.now) (F.rows family.now) length result }
 {
     let sides = Sides {
         width: header.width,
@@ -60,7 +60,7 @@ fn lay_out<F: Family>(
     family: &F,
 ) -> Result<Layout, Refusal>
     requires { (shape_read header.now ≡ Ok shape) × (length ≤ 1073741824) }
-    ensures { LaidOut header.now shape (row_bytes family.now) (rows family.now) length result }
+    ensures { LaidOut header.now shape (F.row_bytes family.now) (F.rows family.now) length result }
 {
     let table = table_of(header, shape, length, family);
     if table.pixel_end != length {
@@ -74,7 +74,7 @@ impl Layout {
     // and its length. No format table is read. Refuses with WrongLength, WrongMagic, WrongHeaderSize, ShortExtendedHeader,
     // NoShape, OutOfRange, TooManyLevels or WrongEnd, in this order.
     pub fn read_with<F: Family>(head: &[u8], length: u64, family: &F) -> Result<Layout, Refusal>
-        ensures { Opened head.now length (row_bytes family.now) (rows family.now) result }
+        ensures { Opened head.now length (F.row_bytes family.now) (F.rows family.now) result }
     {
         let header = Header::read(head, length)?;
         let shape = header.read_shape()?;
@@ -84,7 +84,7 @@ impl Layout {
     // The layout of a file by the format that its header names, with a table of the codes other than DX10. Refuses as
     // `read_with` does, and with UnknownFormat right after ShortExtendedHeader.
     pub fn read<T: CodeTable>(head: &[u8], length: u64, codes: &T) -> Result<Layout, Refusal>
-        ensures { OpenedBy head.now length (name_at codes.now) result }
+        ensures { OpenedBy head.now length (T.name_at codes.now) result }
     {
         let header = Header::read(head, length)?;
         match header.format(codes) {

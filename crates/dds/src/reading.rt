@@ -112,7 +112,7 @@ impl Header {
 
     // The format that the header names, with a table for the codes other than DX10.
     pub fn format<T: CodeTable>(&self, codes: &T) -> Option<Format>
-        ensures { option_map name_of result ≡ header_name (name_at codes.now) self.now }
+        ensures { option_map name_of result ≡ header_name (T.name_at codes.now) self.now }
     {
         if self.is_extended() {
             dxgi_format(self.dxgi_code)

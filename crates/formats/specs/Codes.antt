@@ -1,5 +1,5 @@
 -- Which codes name which format, as two tables: one for DXGI codes, one for the other codes.
-use Rattle.std.specs.Prelude.{◌≡◌, ℕ, ◌+◌, ◌*◌, ◌≤◌, Bool, true, cond, ◌&&◌, ◌⊎◌, List, [], ◌∷◌, ◌++◌, map, Some, None, codes, Option, nat_le}
+use Rattle.std.specs.Prelude.{◌≡◌, ℕ, ◌+◌, ◌*◌, ◌≤◌, cond, ◌&&◌, ◌⊎◌, List, [], ◌∷◌, ◌++◌, map, Some, None, codes, Option, nat_le}
 use Prim.Native.String.{String}
 use Rattle.formats.specs.declared.kinds.FormatName.{FormatName}
 use Rattle.formats.specs.declared.kinds.FormatName.TheVariants.{Linear, Paired, Block}

@@ -1,5 +1,5 @@
 -- What a format is called, and which names stand for a format.
-use Rattle.std.specs.Prelude.{ℕ, cond, Some, None, Option}
+use Rattle.std.specs.Prelude.{cond, Some, None, Option}
 use Rattle.formats.specs.declared.kinds.Format.{Format}
 use Rattle.formats.specs.declared.kinds.Format.TheVariants as format
 use Rattle.formats.specs.declared.kinds.FormatName.{FormatName}

@@ -1,4 +1,6 @@
 // Pixel formats: how many bytes and rows an image takes, and which format a header's code names.
+#![tactic(auto)]
+
 mod bits;
 mod codes;
 mod dxgi;

@@ -52,14 +52,14 @@ impl Line for CodeRow {
 
 // The format that a table gives a code, if any.
 pub(crate) fn format_in<L: Line>(lines: &[L], code: u32) -> Option<Format>
-    ensures { option_map name_of result ≡ admitted_of (name_in (map means lines.now) code) }
+    ensures { option_map name_of result ≡ admitted_of (name_in (map L.means lines.now) code) }
 {
     Format::named(find(lines, code)?)
 }
 
 // The name that the first line with the code gives it, if any.
 fn find<L: Line>(lines: &[L], code: u32) -> Option<FormatName>
-    ensures { result ≡ name_in (map means lines.now) code }
+    ensures { result ≡ name_in (map L.means lines.now) code }
 {
     for line in lines {
         let range = line.range();

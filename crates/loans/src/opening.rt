@@ -47,7 +47,7 @@ impl Job {
         number: u32,
         family: &F,
     ) -> Result<Docket, Refusal>
-        ensures { OpenedWith file.now number (row_bytes family.now) (rows family.now) self.old result self.new }
+        ensures { OpenedWith file.now number (F.row_bytes family.now) (F.rows family.now) self.old result self.new }
     {
         match Layout::read_with(head_of(file), file.len() as u64, family) {
             Ok(layout) => {
@@ -65,7 +65,7 @@ impl Job {
         number: u32,
         codes: &T,
     ) -> Result<Docket, Refusal>
-        ensures { OpenedWithCodes file.now number (name_at codes.now) self.old result self.new }
+        ensures { OpenedWithCodes file.now number (T.name_at codes.now) self.old result self.new }
     {
         let layout = Layout::read(head_of(file), file.len() as u64, codes)?;
         *self = Job::fresh(layout, Some(number));

@@ -1,5 +1,7 @@
 // Why a call is turned down. A refusal leaves everything as it was; docs/REFUSALS.md has each number's meaning, the calls
 // that give it, and the order in which they test.
+#![tactic(auto)]
+
 ghost use Rattle.std.specs.Prelude.{◌≡◌, Some};
 ghost use Rattle.refusal.specs.Numbers.{number_of, EachNumberIsOneRefusal};
 ghost use Rattle.refusal.specs.Meanings.{meaning_of, refusal_text};

@@ -1,4 +1,4 @@
-use Rattle.std.proofs.Common.{◌≡◌, ℕ, suc, ◌+◌, ◌*◌, ◌<◌, ◌≤◌, ltb, length, sym, refl, ap, ◌∙◌, add-one, arith, rules}
+use Rattle.std.proofs.Common.{◌≡◌, ℕ, suc, ltb, sym, refl, ap, ◌∙◌, add-one, arith, rules}
 use lib.ListN.{get_or-replicate}
 use Rattle.std.proofs.lemmas.Bool.{cond-false, le-ltb}
 use Rattle.formats.specs.Extents.{extent_of}
@@ -30,7 +30,7 @@ loop-k-init g c = (
 
 pub end-begin-requires : goal.end-begin-requires
 end-begin-requires g c =
-    let e = c.level-of-level.ensures
+    let e = c.level_of-level.ensures
     ∙ wrote (g.F.Family.row_bytes c.args.family.now) (g.F.Family.rows c.args.family.now) c.args.first c.loop-k.sides c.loop-k.begin c.loop-k.k
     c.requires.0 c.loop-k.invariant.1 c.loop-k.invariant.2 in
     let f = begin_few (g.F.Family.row_bytes c.args.family.now) (g.F.Family.rows c.args.family.now) (g.met.F.Family.bounded c.args.family.now) c.args.first c.requires.0 (suc c.loop-k.k) in
@@ -39,12 +39,12 @@ end-begin-requires g c =
 
 pub loop-k-preserved : goal.loop-k-preserved
 loop-k-preserved g c =
-    let e = c.level-of-level.ensures
+    let e = c.level_of-level.ensures
     ∙ wrote (g.F.Family.row_bytes c.args.family.now) (g.F.Family.rows c.args.family.now) c.args.first c.loop-k.sides c.loop-k.begin c.loop-k.k
     c.requires.0 c.loop-k.invariant.1 c.loop-k.invariant.2 in (
       search rules,
       c.halved-sides.ensures ∙ sides_step c.args.first c.loop-k.sides c.loop-k.k c.loop-k.invariant.1,
       rw add-one (c.end-begin.ensures ∙ ap level_end e),
       one_more (level_at (g.F.Family.row_bytes c.args.family.now) (g.F.Family.rows c.args.family.now) c.args.first) blank
-          c.level-of-level.result c.loop-k.levels c.loop-k.k (search rules) e c.loop-k.invariant.3,
+          c.level_of-level.result c.loop-k.levels c.loop-k.k (search rules) e c.loop-k.invariant.3,
     )

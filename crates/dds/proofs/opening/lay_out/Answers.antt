@@ -10,12 +10,12 @@ use Rattle.dds.proofs.opening.lay_out.Goals as goal
 
 pub returns-then-table-length : goal.returns-then-table-length
 returns-then-table-length g c =
-    (refl, table_fits_none _ _ _ _ _ _ c.table-of-table.ensures (shaped c.args.header.now c.args.shape c.requires.0) (λ e. omega arith))
+    (refl, table_fits_none _ _ _ _ _ _ c.table_of-table.ensures (shaped c.args.header.now c.args.shape c.requires.0) (λ e. omega arith))
 
 pub of-requires : goal.of-requires
 of-requires g c =
     let ok = shaped c.args.header.now c.args.shape c.requires.0 in
-    let is = c.table-of-table.ensures in (
+    let is = c.table_of-table.ensures in (
       table_counted _ _ _ _ _ _ is ok,
       (
         table_chained _ _ _ _ _ _ is ok (g.met.F.Family.bounded c.args.family.now),
@@ -26,7 +26,7 @@ of-requires g c =
 pub returns : goal.returns
 returns g c =
     let ok = shaped c.args.header.now c.args.shape c.requires.0 in
-    let is = c.table-of-table.ensures in (
+    let is = c.table_of-table.ensures in (
       subst (λ (t : Table). FitsPlan (plan_of c.args.header.now c.args.shape (g.F.Family.row_bytes c.args.family.now) (g.F.Family.rows c.args.family.now)) c.args.length (pieces_of (plan_in t)))
           (sym c.of.ensures) (table_fits_file _ _ _ _ _ _ is ok (omega arith)),
       subst (λ (t : Table). TableOf c.args.header.now c.args.shape (g.F.Family.row_bytes c.args.family.now) (g.F.Family.rows c.args.family.now) c.args.length t)

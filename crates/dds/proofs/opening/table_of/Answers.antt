@@ -4,37 +4,37 @@ use Rattle.dds.proofs.Shaped.{shaped}
 use Rattle.dds.proofs.Opened.{walk_fits, made}
 use Rattle.dds.proofs.opening.table_of.Goals as goal
 
-pub chain-of-chain-requires : goal.chain-of-chain-requires
-chain-of-chain-requires g c =
+pub chain_of-chain-requires : goal.chain_of-chain-requires
+chain_of-chain-requires g c =
     let s = shaped c.args.header.now c.args.shape c.requires in
     let few = s.few_levels in
-    let count = c.levels-level-count.ensures in (
+    let count = c.levels-level_count.ensures in (
       subst (λ d. InRange (record { width = c.args.header.now.width; height = c.args.header.now.height; depth = d })) (sym c.depth.ensures) s.sides,
       omega arith,
     )
 
-pub slice-bounds-element-step-end : goal.slice-bounds-element-step-end
-slice-bounds-element-step-end g c =
+pub slice_bounds-element_step-end : goal.slice_bounds-element_step-end
+slice_bounds-element_step-end g c =
     let s = shaped c.args.header.now c.args.shape c.requires in
     let few = s.few_levels in
-    let count = c.levels-level-count.ensures in
+    let count = c.levels-level_count.ensures in
     search rules
 
-pub element-step-pixel-end-requires : goal.element-step-pixel-end-requires
-element-step-pixel-end-requires g c =
+pub element_step-pixel_end-requires : goal.element_step-pixel_end-requires
+element_step-pixel_end-requires g c =
     walk_fits
     (record {
       ok = shaped c.args.header.now c.args.shape c.requires;
       depth_is = c.depth.ensures;
-      count_is = c.levels-level-count.ensures;
-      begin_is = c.pixel-begin-pixel-begin.ensures;
+      count_is = c.levels-level_count.ensures;
+      begin_is = c.pixel_begin-pixel_begin.ensures;
       elements_is = c.elements-elements.ensures;
-      chain_is = c.chain-of-chain.ensures;
+      chain_is = c.chain_of-chain.ensures;
     })
     (g.met.F.Family.bounded c.args.family.now)
 
-pub overflow-cast-result : goal.overflow-cast-result
-overflow-cast-result g c =
+pub overflow_cast-result : goal.overflow_cast-result
+overflow_cast-result g c =
     let few = (shaped c.args.header.now c.args.shape c.requires).few_elements in
     let e = c.elements-elements.ensures in
     search rules
@@ -45,9 +45,9 @@ returns g c =
     (record {
       ok = shaped c.args.header.now c.args.shape c.requires;
       depth_is = c.depth.ensures;
-      count_is = c.levels-level-count.ensures;
-      begin_is = c.pixel-begin-pixel-begin.ensures;
+      count_is = c.levels-level_count.ensures;
+      begin_is = c.pixel_begin-pixel_begin.ensures;
       elements_is = c.elements-elements.ensures;
-      chain_is = c.chain-of-chain.ensures;
+      chain_is = c.chain_of-chain.ensures;
     })
-    c.args.length c.element-step-pixel-end.result c.element-step-pixel-end.ensures
+    c.args.length c.element_step-pixel_end.result c.element_step-pixel_end.ensures

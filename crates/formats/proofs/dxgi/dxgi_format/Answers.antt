@@ -7,6 +7,6 @@ use Rattle.formats.proofs.dxgi.dxgi_format.Goals as goal
 pub returns : goal.returns
 unfolding dxgi_rows
 returns c = record {
-  names = c.format-in.ensures ∙ follows_rule _ dxgi_rows refl refl c.args.code;
+  names = c.format_in.ensures ∙ follows_rule _ dxgi_rows refl refl c.args.code;
   unambiguous = unambiguous dxgi_rows refl;
 }

@@ -7,6 +7,6 @@ pub returns : goal.returns
 returns g c =
     record {
       allowed = search rules;
-      element = first_of_run (contents c.args.self.now) c.in-ok-found.found.now c.args.position 1 c.index-found-0.result (search rules)
-          c.in-ok-found.ensures.elements c.index-found-0.is;
+      element = first_of_run (contents c.args.self.now) c.in_ok-found.found.now c.args.position 1 c.index-found-0.result (search rules)
+          c.in_ok-found.ensures.elements c.index-found-0.is;
     }

@@ -11,5 +11,5 @@ returns g c =
     let inside : c.args.from + c.args.number ≤ count_of c.args.self.now = search rules in
     let slid = slid_within c.args.self.now.memory.now (count_of c.args.self.now) c.args.from c.args.number c.args.to
     down inside (search rules) in
-    carried_out_lem _ _ (inside, down) (ap (λ n. min c.args.self.now.count (min n 1073741824)) c.copy-within.ensures.len)
-    c.copy-within.ensures.len refl (ap (λ xs. take (count_of c.args.self.now) xs) c.copy-within.ensures.after ∙ slid)
+    carried_out_lem _ _ (inside, down) (ap (λ n. min c.args.self.now.count (min n 1073741824)) c.copy_within.ensures.len)
+    c.copy_within.ensures.len refl (ap (λ xs. take (count_of c.args.self.now) xs) c.copy_within.ensures.after ∙ slid)

@@ -8,8 +8,8 @@ returns-then-header-ne124 c =
     let h : c.after-header.result ≡ header_of c.args.head.now = c.after-header.ensures c.args.head.now c.in-Some.ensures.1 in
     grind (arith, nat_tests)
 
-pub returns-then-length-lt-SHORTEST-EXTENDED : goal.returns-then-length-lt-SHORTEST-EXTENDED
-returns-then-length-lt-SHORTEST-EXTENDED c =
+pub returns-then-length-lt-SHORTEST_EXTENDED : goal.returns-then-length-lt-SHORTEST_EXTENDED
+returns-then-length-lt-SHORTEST_EXTENDED c =
     let h : c.after-header.result ≡ header_of c.args.head.now = c.after-header.ensures c.args.head.now c.in-Some.ensures.1 in
     grind (arith, nat_tests)
 

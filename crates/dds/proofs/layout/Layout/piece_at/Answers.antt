@@ -39,11 +39,11 @@ returns c =
         omega arith,
         subst
             (λ (y : Table). Owned y c.args.place
-            (record { element = (c.args.place - c.table-table.result.now.pixel_begin) / c.table-table.result.now.stride; level = c.spot-at-spot.result.level; slice = c.spot-at-spot.result.slice })
-            c.spot-at-spot.result.offset)
+            (record { element = (c.args.place - c.table-table.result.now.pixel_begin) / c.table-table.result.now.stride; level = c.spot_at-spot.result.level; slice = c.spot_at-spot.result.slice })
+            c.spot_at-spot.result.offset)
             t.value
-            (owner_at c.table-table.result.now t.counted t.chained t.ended c.args.place c.spot-at-spot.result
-            c.if-place-table-2.false c.if-place-table-3.false c.spot-at-spot.ensures),
+            (owner_at c.table-table.result.now t.counted t.chained t.ended c.args.place c.spot_at-spot.result
+            c.if-place-table-2.false c.if-place-table-3.false c.spot_at-spot.ensures),
       );
       tiled = tiled c.args.self.now;
     }

@@ -1,4 +1,4 @@
-use Rattle.std.proofs.Common.{◌≡◌, ◌≤◌, false, sym, refl, ap, ⊎_elim, arith}
+use Rattle.std.proofs.Common.{◌≡◌, false, sym, refl, ap, ⊎_elim, arith}
 use Rattle.std.proofs.lemmas.Bool.{cond-false}
 use Rattle.std.proofs.lemmas.Bool.Decides.{nat_tests}
 use Rattle.dds.specs.Places.{exists_in}
@@ -7,9 +7,9 @@ use Rattle.dds.specs.declared.table.Table.{Table}
 use Rattle.dds.proofs.Placing.{Found, found_fits, found_area, found_where, tiled}
 use Rattle.dds.proofs.layout.Layout.place_of.Goals as goal
 
-pub returns-in-default : goal.returns-in-default
-returns-in-default c =
-    let b = c.in-default.ensures in
+pub returns-in_default : goal.returns-in_default
+returns-in_default c =
+    let b = c.in_default.ensures in
     record {
       value = (refl, λ h. (let a = h.1 in omega arith));
       exact = (let out : exists_in c.args.self.now.table c.args.piece ≡ false = grind (arith, nat_tests) in sym (cond-false _ _ _ out));
@@ -33,8 +33,8 @@ returns-then-piece-table c =
       tiled = tiled c.args.self.now;
     }
 
-pub place-in-requires : goal.place-in-requires
-place-in-requires c =
+pub place_in-requires : goal.place_in-requires
+place_in-requires c =
     found_fits {layout = c.args.self.now}
     (record {
       table = c.table-table.ensures.value;
@@ -54,7 +54,7 @@ returns c =
       slice = c.if-piece-level.false;
     } in
     record {
-      value = found_area f c.place-in.result c.piece-length.result c.place-in.ensures c.piece-length.ensures;
-      exact = found_where f c.place-in.result c.piece-length.result c.place-in.ensures c.piece-length.ensures;
+      value = found_area f c.place_in.result c.piece_length.result c.place_in.ensures c.piece_length.ensures;
+      exact = found_where f c.place_in.result c.piece_length.result c.place_in.ensures c.piece_length.ensures;
       tiled = tiled c.args.self.now;
     }

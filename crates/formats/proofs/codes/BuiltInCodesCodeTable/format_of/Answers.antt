@@ -7,6 +7,6 @@ use Rattle.formats.proofs.codes.BuiltInCodesCodeTable.format_of.Goals as goal
 pub returns : goal.returns
 unfolding plain_rows
 returns c = record {
-  names = c.format-in.ensures ∙ follows_rule _ plain_rows refl refl c.args.code;
+  names = c.format_in.ensures ∙ follows_rule _ plain_rows refl refl c.args.code;
   unambiguous = unambiguous plain_rows refl;
 }
