@@ -1,7 +1,6 @@
 -- What holds where no refusal of a call applies.
-use Rattle.std.proofs.Common.{◌≡◌, ℕ, suc, ◌+◌, ◌*◌, ◌<◌, ◌≤◌, Bool, true, false, cond, not, ◌&&◌, ◌||◌, eqb, ltb, leb, List, length, get_or, Some, None, Option, sym, refl, ap, ◌∙◌, subst, mul-le-mul_right, suc-mul, mul_comm, arith}
-use Rattle.std.proofs.lemmas.Bool.{not-false, not-true, or_parts, and_parts, leb-false, ltb-false, eqb-true, eqb-false}
-use Rattle.refusal.specs.declared.Refusal.{Refusal}
+use Rattle.std.proofs.Common.{◌≡◌, ℕ, suc, ◌+◌, ◌*◌, ◌<◌, ◌≤◌, true, false, not, eqb, ltb, leb, length, None, mul-le-mul_right, suc-mul, mul_comm, arith}
+use Rattle.std.proofs.lemmas.Bool.{not-false, or_parts, and_parts, leb-false, ltb-false, eqb-true, eqb-false}
 use Rattle.dds.specs.declared.area.Area.{Area}
 use Rattle.loans.specs.Jobs.{Book}
 use Rattle.loans.specs.Stocks.{Stock, is_out, the_loan, marks_of, lengths, all_sound, all_counted, are_ours}

@@ -1,5 +1,5 @@
 -- One call after the other, and their answers.
-use Rattle.std.proofs.Common.{◌≡◌, ℕ, ◌+◌, ◌-◌, ◌<◌, ◌≤◌, Bool, true, List, [], ◌∷◌, ◌++◌, map, length, get_or, take, Some, None, Ok, Err, Option, Result, sym, refl, ap, ◌∙◌, subst, ap₂, append_assoc, append-nil, arith, take_all}
+use Rattle.std.proofs.Common.{◌≡◌, ℕ, ◌+◌, ◌-◌, ◌<◌, ◌≤◌, Bool, true, List, [], ◌∷◌, ◌++◌, map, length, get_or, take, Ok, Err, Option, Result, sym, refl, ap, ◌∙◌, subst, ap₂, append_assoc, append-nil, arith, take_all}
 use Rattle.std.proofs.lemmas.List.{take_more, take-map, map_push}
 use Rattle.refusal.specs.declared.Refusal.{Refusal}
 use Rattle.loans.specs.declared.call.Answer.{Answer}
@@ -8,7 +8,7 @@ use Rattle.loans.specs.declared.job.Job.{Job}
 use Rattle.loans.specs.declared.mark.Shelves.{Shelves}
 use Rattle.loans.specs.Stocks.{are_ours}
 use Rattle.loans.specs.Strokes.{State, state_of}
-use Rattle.loans.specs.Rules.{Deed, deed_of, refusal_of, carried_out, number_for, reply, left, answer_to, after, answers_to, after_all}
+use Rattle.loans.specs.Rules.{Deed, deed_of, carried_out, number_for, reply, left, answer_to, after, answers_to, after_all}
 use Rattle.loans.specs.Calls.{Called}
 use Rattle.loans.specs.Runs.{answer_with, OursAlong, AllDone}
 use Rattle.loans.proofs.Calls.{after_all_push, answers_to_push}

@@ -1,19 +1,17 @@
 -- What a keep and a cancel that are carried out leave.
-use Rattle.std.proofs.Common.{◌≡◌, ℕ, suc, ◌+◌, ◌-◌, ◌<◌, ◌≤◌, Bool, true, false, cond, not, ◌&&◌, eqb, ◌≢◌, List, [], ◌∷◌, ◌++◌, map, length, get_or, take, drop, None, sym, refl, ap, ◌∙◌, subst, ap₂, arith}
-use lib.Seq.{paste}
+use Rattle.std.proofs.Common.{◌≡◌, ℕ, ◌<◌, true, not, List, map, length, sym, ap, ◌∙◌, arith}
 use Rattle.std.proofs.lemmas.Bool.{cond-false, not_from_true, eq-eqb}
 use Rattle.shelf.specs.Model.{contents}
 use Rattle.loans.specs.declared.job.Job.{Job}
 use Rattle.loans.specs.declared.ledger.Ledger.{Ledger}
-use Rattle.loans.specs.declared.ledger.Loan.{Loan}
 use Rattle.loans.specs.declared.mark.Shelves.{Shelves}
 use Rattle.loans.specs.Lists.{less_all}
-use Rattle.loans.specs.Books.{no_loan, outs}
+use Rattle.loans.specs.Books.{outs}
 use Rattle.loans.specs.Jobs.{Book, book_of}
-use Rattle.loans.specs.Stocks.{Stock, stock_of, is_number, is_out, of_loan, are_ours}
+use Rattle.loans.specs.Stocks.{Stock, stock_of, is_number, is_out, are_ours}
 use Rattle.loans.specs.Finding.{StandsAt}
-use Rattle.loans.specs.Strokes.{State, state_of, is_other_length, recounted, counted_loan}
-use Rattle.loans.specs.Ending.{stock_without, book_without, keep_refusal, kept_book, cancel_refusal, cancelled, restored}
+use Rattle.loans.specs.Strokes.{state_of, is_other_length, recounted, counted_loan}
+use Rattle.loans.specs.Ending.{stock_without, book_without, restored}
 use Rattle.loans.specs.Rules.Deed.{keep, cancel}
 use Rattle.loans.specs.Calls.{Carried}
 use Rattle.loans.specs.Writing.{ledger_ended}

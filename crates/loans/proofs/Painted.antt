@@ -1,23 +1,20 @@
 -- What a paint that is carried out leaves.
-use Rattle.std.proofs.Common.{◌≡◌, ℕ, suc, ◌+◌, ◌-◌, ◌*◌, ◌<◌, ◌≤◌, Bool, true, false, cond, eqb, ◌≢◌, List, [], ◌∷◌, ◌++◌, map, length, get_or, take, drop, set, None, sym, refl, ap, ◌∙◌, subst, ap₂, arith}
+use Rattle.std.proofs.Common.{◌≡◌, ℕ, suc, ◌+◌, ◌-◌, ◌<◌, ◌≤◌, Bool, true, false, cond, ◌≢◌, List, [], ◌∷◌, ◌++◌, map, length, get_or, take, drop, None, refl, ap, ◌∙◌, arith}
 use lib.Seq.{paste}
 use Rattle.std.proofs.lemmas.Bool.{cond-true, cond-false, eq-eqb, ne_eqb}
-use Rattle.shelf.specs.Model.{contents, count_of}
+use Rattle.shelf.specs.Model.{contents}
 use Rattle.shelf.proofs.Shelves.{counted, count_within, capacity_capped}
-use Rattle.dds.specs.declared.layout.Layout.{Layout}
 use Rattle.loans.specs.declared.job.Job.{Job}
-use Rattle.loans.specs.declared.ledger.Ledger.{Ledger}
-use Rattle.loans.specs.declared.ledger.Loan.{Loan}
 use Rattle.loans.specs.declared.mark.Mark.{Mark}
 use Rattle.loans.specs.declared.mark.Shelves.{Shelves}
 use Rattle.loans.specs.Books.{no_loan, outs}
 use Rattle.loans.specs.Jobs.{book_of}
 use Rattle.loans.specs.Stocks.{Stock, stock_of, the_loan, of_loan, marks_of, are_ours}
 use Rattle.loans.specs.Finding.{StandsAt}
-use Rattle.loans.specs.Strokes.{State, Painting, state_of, recounted, counted_loan, paint_refusal, stroke_place, PaintAt, stock_with, painted_stock, painted}
+use Rattle.loans.specs.Strokes.{State, Painting, state_of, recounted, counted_loan, paint_refusal, stroke_place, PaintAt, stock_with, painted_stock}
 use Rattle.loans.specs.Rules.Deed.{paint}
 use Rattle.loans.specs.Calls.{Carried}
-use Rattle.loans.specs.Writing.{loan_with, ledger_counted}
+use Rattle.loans.specs.Writing.{ledger_counted}
 use Rattle.loans.proofs.Counting.{out_count, out_inside}
 use Rattle.loans.proofs.Tallying.{marks_few}
 use Rattle.loans.proofs.Owning.{outs_distinct}

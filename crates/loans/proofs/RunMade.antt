@@ -1,18 +1,16 @@
 -- What a run leaves, and that the law holds of it.
-use Rattle.std.proofs.Common.{◌≡◌, ℕ, Bool, true, ◌&&◌, eqb, List, [], ◌++◌, length, take, Some, Ok, sym, refl, ap, ◌∙◌, subst, ap₂, arith}
+use Rattle.std.proofs.Common.{◌≡◌, Bool, true, eqb, List, [], ◌++◌, length, take, Some, Ok, sym, refl, ap, ◌∙◌, subst}
 use Rattle.std.proofs.lemmas.List.{nil_from_length}
 use Rattle.std.proofs.lemmas.Bool.{and_parts, eqb-true}
 use Rattle.loans.specs.declared.call.Answer.{Answer}
 use Rattle.loans.specs.declared.docket.Docket.{Docket}
 use Rattle.loans.specs.declared.job.Job.{Job}
-use Rattle.loans.specs.declared.mark.Shelves.{Shelves}
-use Rattle.loans.specs.Jobs.{Book, book_of, fresh_book}
+use Rattle.loans.specs.Jobs.{book_of, fresh_book}
 use Rattle.loans.specs.Stocks.{Stock, stock_of, are_ours}
 use Rattle.loans.specs.Strokes.{State, state_of}
-use Rattle.loans.specs.Rules.{Deed, answers_to, after_all}
+use Rattle.loans.specs.Rules.{answers_to, after_all}
 use Rattle.loans.specs.History.{history_of}
 use Rattle.loans.specs.Law.{Law}
-use Rattle.loans.specs.Opening.{OpenedWith}
 use Rattle.loans.specs.Runs.{opened_state, is_empty, OursAlong, AllDone, Ordered, OpenedAs, RanSo}
 use Rattle.loans.proofs.Calls.{answers_to_length}
 use Rattle.loans.proofs.Runs.{law_run, ours_run}

@@ -1,10 +1,10 @@
 -- What cancelling all loans out one after the other leaves.
-use Rattle.std.proofs.Common.{◌≡◌, ℕ, zero, suc, ◌+◌, ◌-◌, ◌<◌, ◌≤◌, Bool, true, false, cond, not, ◌&&◌, eqb, leb, ◌≢◌, ◌⊎◌, List, [], ◌∷◌, ◌++◌, map, length, get_or, take, drop, Some, None, Ok, Err, filter, Option, Result, sym, refl, ap, ◌∙◌, subst, ap₂, inl, inr, arith, length-drop, length-take-le}
+use Rattle.std.proofs.Common.{◌≡◌, ℕ, suc, ◌+◌, ◌<◌, ◌≤◌, Bool, true, false, cond, not, ◌&&◌, eqb, leb, ◌≢◌, List, [], ◌∷◌, ◌++◌, map, length, get_or, take, drop, Some, None, Ok, Err, filter, Option, Result, sym, refl, ap, ◌∙◌, subst, ap₂, arith, length-drop, length-take-le}
 use lib.Seq.{paste}
 use Rattle.std.proofs.lemmas.List.Edits.{length-paste}
 use Rattle.std.proofs.lemmas.List.{length-append, length-map, drop_more, nil_from_length}
 use Rattle.refusal.specs.declared.Refusal.{Refusal}
-use Rattle.std.proofs.lemmas.Bool.{not_from_true, false≢true, cond-true, cond-false, and_parts, and_from, eqb-true, eqb-false, eq-eqb, ne_eqb}
+use Rattle.std.proofs.lemmas.Bool.{not_from_true, cond-false, and_parts, and_from, eqb-true, eqb-false, eq-eqb, ne_eqb}
 use Rattle.loans.specs.declared.job.Job.{Job}
 use Rattle.loans.specs.declared.ledger.Loan.{Loan}
 use Rattle.loans.specs.declared.mark.Mark.{Mark}
@@ -12,9 +12,8 @@ use Rattle.loans.specs.declared.mark.Shelves.{Shelves}
 use Rattle.loans.specs.Lists.{less_all}
 use Rattle.loans.specs.Books.{no_loan, outs}
 use Rattle.loans.specs.Jobs.{book_of}
-use Rattle.loans.specs.Stocks.{Stock, stock_of, is_number, is_out, the_loan, of_loan, lengths, lies_in, is_sound, all_sound, are_ours}
+use Rattle.loans.specs.Stocks.{stock_of, is_number, is_out, the_loan, of_loan, lengths, lies_in, is_sound, all_sound, are_ours}
 use Rattle.loans.specs.Strokes.{State, state_of, is_other_length, counted_loan}
-use Rattle.loans.specs.Taking.{no_mark}
 use Rattle.loans.specs.Ending.{bytes_of, stock_without, restored, InFile, cancel_refusal, cancelled, all_cancelled}
 use Rattle.loans.specs.Finding.{StandsAt}
 use Rattle.loans.specs.Rules.Deed.{cancel}

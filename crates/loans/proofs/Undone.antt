@@ -1,9 +1,8 @@
 -- What an undo that is carried out takes back and leaves.
-use Rattle.std.proofs.Common.{◌≡◌, ℕ, zero, suc, ◌+◌, ◌-◌, ◌<◌, ◌≤◌, Bool, true, false, cond, not, ◌&&◌, eqb, leb, ◌≢◌, List, [], ◌∷◌, ◌++◌, length, get_or, take, drop, None, Result, sym, refl, ap, ◌∙◌, subst, ap₂, arith}
-use lib.Seq.{paste}
+use Rattle.std.proofs.Common.{◌≡◌, ℕ, zero, suc, ◌+◌, ◌-◌, ◌<◌, ◌≤◌, Bool, true, false, cond, ◌&&◌, eqb, leb, ◌≢◌, List, [], ◌∷◌, ◌++◌, length, get_or, take, drop, Result, sym, refl, ap, ◌∙◌, arith}
 use Rattle.std.proofs.lemmas.Bool.{false≢true, cond-true, cond-false, and_parts, leb-true, eqb-true, ne_eqb}
 use Rattle.refusal.specs.declared.Refusal.{Refusal}
-use Rattle.shelf.specs.Model.{contents, count_of}
+use Rattle.shelf.specs.Model.{contents}
 use Rattle.shelf.specs.Calls.{TakeOff}
 use Rattle.shelf.proofs.Shelves.{counted, take_off_done}
 use Rattle.dds.specs.declared.area.Area.{Area}
@@ -14,8 +13,8 @@ use Rattle.loans.specs.declared.mark.Shelves.{Shelves}
 use Rattle.loans.specs.Books.{no_loan, outs}
 use Rattle.loans.specs.Jobs.{book_of}
 use Rattle.loans.specs.Stocks.{Stock, stock_of, is_out, the_loan, of_loan, marks_of, lengths, are_ours, is_sound, all_sound, lies_in}
-use Rattle.loans.specs.Strokes.{State, state_of, HeldAt, undo_refusal, undone_stock, undone, recounted, marks_less}
-use Rattle.loans.specs.Taking.{no_mark, NewestAt, file_less, stock_less, Whole, UndoAt}
+use Rattle.loans.specs.Strokes.{State, state_of, HeldAt, undone_stock, recounted}
+use Rattle.loans.specs.Taking.{no_mark, NewestAt, file_less, stock_less, UndoAt}
 use Rattle.loans.specs.Ending.{InFile}
 use Rattle.loans.specs.Rules.Deed.{undo}
 use Rattle.loans.specs.Calls.{Carried}

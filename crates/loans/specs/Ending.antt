@@ -1,13 +1,12 @@
 -- What keeping and cancelling a loan, and scrapping a job, answer and leave.
-use Rattle.std.specs.Prelude.{◌≡◌, ℕ, ◌+◌, ◌<◌, ◌≤◌, Bool, cond, not, List, [], ◌∷◌, ◌++◌, length, take, drop, Some, None, Option, slice_index_or}
+use Rattle.std.specs.Prelude.{ℕ, ◌+◌, ◌<◌, ◌≤◌, Bool, cond, not, List, [], ◌∷◌, ◌++◌, length, take, drop, Some, None, Option, slice_index_or}
 use Rattle.std.proofs.Math.Seq.{paste}
 use Rattle.refusal.specs.declared.Refusal.{Refusal}
 use Rattle.refusal.specs.declared.Refusal.TheVariants.{OtherLength, LoanNotOut, ForeignShelves, OtherDocket}
 use Rattle.loans.specs.declared.ledger.Loan.{Loan}
-use Rattle.loans.specs.declared.ledger.Report.{Report}
 use Rattle.loans.specs.declared.mark.Mark.{Mark}
 use Rattle.loans.specs.Lists.{less_all}
-use Rattle.loans.specs.Jobs.{Book, report_of}
+use Rattle.loans.specs.Jobs.{Book}
 use Rattle.loans.specs.Shipping.{has_number}
 use Rattle.loans.specs.Stocks.{Stock, is_number, is_out, of_loan, are_ours}
 use Rattle.loans.specs.Strokes.{State, is_other_length, recounted}

@@ -1,5 +1,5 @@
 -- What a job means: its layout's table, its number, its loans out, and its counts.
-use Rattle.std.specs.Prelude.{◌≡◌, ℕ, List, [], length, Some, None, Option}
+use Rattle.std.specs.Prelude.{ℕ, List, [], length, None, Option}
 use Rattle.dds.specs.declared.table.Table.{Table}
 use Rattle.dds.specs.Sound.{empty_table}
 use Rattle.loans.specs.declared.job.Job.{Job}

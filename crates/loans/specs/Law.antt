@@ -1,11 +1,9 @@
 -- The law of loans and strokes: what holds after every list of calls on a newly opened job with two empty shelves.
-use Rattle.std.specs.Prelude.{◌≡◌, ℕ, ◌+◌, ◌*◌, ◌<◌, ◌≤◌, true, List, [], ◌∷◌, length, ◌≢◌}
+use Rattle.std.specs.Prelude.{◌≡◌, ℕ, ◌+◌, ◌<◌, ◌≤◌, true, List, [], ◌∷◌, length, ◌≢◌}
 use Rattle.std.specs.List.{AllByRecursion as All}
 use Rattle.refusal.specs.declared.Refusal.TheVariants.{OtherLength, ForeignShelves}
-use Rattle.dds.specs.declared.area.Area.{Area}
 use Rattle.dds.specs.declared.table.Table.{Table}
 use Rattle.dds.specs.Places.{exists_in, area_in}
-use Rattle.loans.specs.declared.call.Answer.{Answer}
 use Rattle.loans.specs.declared.call.Answer.TheVariants.{Refused}
 use Rattle.loans.specs.declared.ledger.Loan.{Loan}
 use Rattle.loans.specs.Lists.{Among}

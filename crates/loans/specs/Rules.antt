@@ -1,5 +1,5 @@
 -- What each call on a job answers and leaves, in one place: the single calls and the law over lists of calls both cite this.
-use Rattle.std.specs.Prelude.{◌≡◌, ℕ, List, [], ◌∷◌, map, length, Some, None, Option}
+use Rattle.std.specs.Prelude.{ℕ, List, [], ◌∷◌, length, Some, None, Option}
 use Rattle.refusal.specs.declared.Refusal.{Refusal}
 use Rattle.dds.specs.declared.piece.Piece.{Piece}
 use Rattle.loans.specs.declared.call.Answer.{Answer}

@@ -5,8 +5,8 @@ use Rattle.loans.specs.declared.docket.Docket.{Docket}
 use Rattle.loans.specs.declared.job.Job.{Job}
 use Rattle.loans.specs.declared.ledger.Report.{Report}
 use Rattle.loans.specs.declared.mark.Shelves.{Shelves}
-use Rattle.loans.specs.Jobs.{book_of, empty_book, report_of}
-use Rattle.loans.specs.Stocks.{stock_of, are_ours}
+use Rattle.loans.specs.Jobs.{empty_book, report_of}
+use Rattle.loans.specs.Stocks.{are_ours}
 use Rattle.loans.specs.Strokes.{State, state_of}
 use Rattle.loans.specs.Ending.{scrap_refusal, all_cancelled}
 

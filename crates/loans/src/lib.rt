@@ -1,4 +1,6 @@
 // Loans and strokes: the job of one opened file, and the calls on it.
+#![tactic(auto)]
+
 mod call;
 mod docket;
 mod ending;

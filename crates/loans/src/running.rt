@@ -93,7 +93,7 @@ pub fn run<F: Family>(
     calls: &[Call<'_>],
     answers: &mut Vec<Answer>,
 ) -> Result<Docket, RunFault>
-    ensures { Ran (record { file = file.entry.now; number = number; row_bytes = F.row_bytes family.now; rows = F.rows family.now; shelves = shelves.old; calls = map deed_of calls.now; old = answers.old.items }) (vec_len answers.old) (vec_capacity answers.old) job.old result job.new file.exit.now shelves.new answers.new.items }
+    ensures { Ran (record { file = file.old; number = number; row_bytes = F.row_bytes family.now; rows = F.rows family.now; shelves = shelves.old; calls = map deed_of calls.now; old = answers.old.items }) (vec_len answers.old) (vec_capacity answers.old) job.old result job.new file.new shelves.new answers.new.items }
 {
     let mut opened = Job::empty();
     let docket = match opened.open_with(file, number, family) {

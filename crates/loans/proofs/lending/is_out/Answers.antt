@@ -11,8 +11,8 @@ one : (ls : List Loan) (p : Piece) (i : ℕ) → i < length ls
     → piece_is_out (drop i ls) p ≡ (same_piece (get_or ls i no_loan).piece p || piece_is_out (drop (i + 1) ls) p)
 one ls p i h = at_drop_more (λ l. piece_is_out l p) ls i no_loan h
 
-pub returns-then-is-same : goal.returns-then-is-same
-returns-then-is-same c = let e = one c.args.loans.now c.args.piece c.loop-loan.loan-index (omega arith) in grind (arith, nat_tests)
+pub returns-then-is_same : goal.returns-then-is_same
+returns-then-is_same c = let e = one c.args.loans.now c.args.piece c.loop-loan.loan-index (omega arith) in grind (arith, nat_tests)
 
 pub loop-loan-preserved : goal.loop-loan-preserved
 loop-loan-preserved c = let e = one c.args.loans.now c.args.piece c.loop-loan.loan-index (omega arith) in grind (arith, nat_tests)

@@ -8,14 +8,14 @@ use Rattle.loans.proofs.running.run.Goals as goal
 
 pub returns-in-Err-reserve : goal.returns-in-Err-reserve
 returns-in-Err-reserve g c = (
-  (c.open-with.new.self.layout, c.in-Ok.ensures.1),
-  omega (arith, c.in-Err-reserve.ensures.cases, length-map c.args.calls.now deed_of),
+  (c.open_with.new.self.layout, c.in-Ok.ensures.1),
+  omega (arith, c.in-Err-reserve.ensures.full, length-map c.args.calls.now deed_of),
   (refl, refl, refl, c.in-Err-reserve.ensures.items),
 )
 
-pub call-all-requires : goal.call-all-requires
-call-all-requires g c = record {
-  room = c.in-default.ensures.cases;
+pub call_all-requires : goal.call_all-requires
+call_all-requires g c = record {
+  room = c.in_default.ensures.ok;
   along = opened_along (record {
     file = c.args.file.now;
     number = c.args.number;
@@ -24,8 +24,8 @@ call-all-requires g c = record {
     shelves = c.args.shelves.now;
     calls = map deed_of c.args.calls.now;
     old = vec_items c.args.answers.now;
-  }) c.in-Ok.docket c.open-with.new.self
-      (record { docket = c.in-Ok.ensures.0; opened = c.in-Ok.ensures.1; book = c.in-Ok.ensures.2 }) c.are-empty.result c.are-empty.ensures;
+  }) c.in-Ok.docket c.open_with.new.self
+      (record { docket = c.in-Ok.ensures.0; opened = c.in-Ok.ensures.1; book = c.in-Ok.ensures.2 }) c.are_empty.result c.are_empty.ensures;
 }
 
 pub returns : goal.returns
@@ -38,6 +38,6 @@ returns g c =
       shelves = c.args.shelves.now;
       calls = map deed_of c.args.calls.now;
       old = vec_items c.args.answers.now;
-    }) c.in-Ok.docket c.open-with.new.self
+    }) c.in-Ok.docket c.open_with.new.self
     (record { docket = c.in-Ok.ensures.0; opened = c.in-Ok.ensures.1; book = c.in-Ok.ensures.2 })
-    _ _ (record { answers = c.call-all.ensures.answers ∙ ap (λ (old : List Answer). old ++ answers_to (state_of c.open-with.new.self c.args.file.now c.args.shelves.now) (map deed_of c.args.calls.now)) c.in-default.ensures.items; state = c.call-all.ensures.state })
+    _ _ (record { answers = c.call_all.ensures.answers ∙ ap (λ (old : List Answer). old ++ answers_to (state_of c.open_with.new.self c.args.file.now c.args.shelves.now) (map deed_of c.args.calls.now)) c.in_default.ensures.items; state = c.call_all.ensures.state })

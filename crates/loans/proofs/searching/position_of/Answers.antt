@@ -1,4 +1,4 @@
-use Rattle.std.proofs.Common.{sym, ◌∙◌, arith}
+use Rattle.std.proofs.Common.{sym, ◌∙◌}
 use Rattle.std.proofs.lemmas.List.{at_drop_all}
 use Rattle.loans.specs.Stocks.{is_out}
 use Rattle.loans.proofs.Slots.{out_here, loan_here, out_past, loan_past}

@@ -1,4 +1,4 @@
-use Rattle.std.proofs.Common.{◌≡◌, ℕ, drop}
+use Rattle.std.proofs.Common.{◌≡◌, drop}
 use Rattle.loans.specs.Stocks.{is_out, the_loan}
 use Rattle.loans.proofs.searching.position_of.Given as goal
 

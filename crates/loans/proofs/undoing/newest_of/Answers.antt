@@ -6,8 +6,8 @@ pub loop-position-init : goal.loop-position-init
 loop-position-init c =
     subst (Unfound c.args.marks.now c.args.loan (length c.args.marks.now)) c.requires (unfound_all c.args.marks.now c.args.loan)
 
-pub overflow-sub-begin : goal.overflow-sub-begin
-overflow-sub-begin c = long_enough c.args.marks.now c.args.loan c.loop-position.position c.loop-position.begin c.loop-position.invariant c.loop-position-test.true
+pub overflow_sub-begin : goal.overflow_sub-begin
+overflow_sub-begin c = long_enough c.args.marks.now c.args.loan c.loop-position.position c.loop-position.begin c.loop-position.invariant c.loop-position-test.true
 
 pub returns-then-mark-loan : goal.returns-then-mark-loan
 returns-then-mark-loan c = newest_here c.args.marks.now c.args.loan c.loop-position.position c.loop-position.begin c.loop-position.invariant c.loop-position-test.true c.if-mark-loan.true

@@ -1,6 +1,5 @@
-use Rattle.std.proofs.Common.{◌≡◌, ℕ, List, length, sym, ap, ◌∙◌, subst, ap₂, subst₂}
+use Rattle.std.proofs.Common.{◌≡◌, ℕ, List, length, sym, ap, ◌∙◌, ap₂, subst₂}
 use Rattle.std.proofs.lemmas.Bool.{eqb-true}
-use Rattle.shelf.specs.Model.{contents}
 use Rattle.loans.specs.declared.ledger.Ledger.{Ledger}
 use Rattle.loans.specs.declared.mark.Mark.{Mark}
 use Rattle.loans.specs.Stocks.{stock_of, lengths}
@@ -15,8 +14,8 @@ pub restore-requires : goal.restore-requires
 restore-requires c =
     let s = c.args.self.now in
     let v = c.args.shelves.now in
-    let e = sym c.if-not-owns-or-knows.ensures in
-    let sized : length c.args.file.now ≡ s.layout.table.length = eqb-true _ _ (sym c.if-not-has-length.ensures) in
+    let e = sym c.if-not-owns_or_knows.ensures in
+    let sized : length c.args.file.now ≡ s.layout.table.length = eqb-true _ _ (sym c.if-not-has_length.ensures) in
     record {
       covered = ap lengths c.elements.ensures.value ∙ (ours (book_of s) (stock_of v) e).covered ∙ sym (ap length c.elements-2.ensures.value);
       inside = subst₂ (λ (n : ℕ) (ms : List Mark). InFile n ms) (sym sized) (sym c.elements.ensures.value) (marks_in_file s (stock_of v) e);
@@ -24,13 +23,13 @@ restore-requires c =
 
 pub returns : goal.returns
 returns c =
-    cancel_carried {s = c.args.self.now} {t = c.end-loan.new.self} {v = c.args.shelves.now} {f = c.args.file.now} (record {
+    cancel_carried {s = c.args.self.now} {t = c.end_loan.new.self} {v = c.args.shelves.now} {f = c.args.file.now} (record {
       loan = c.in-Some.ensures;
-      ours = sym c.if-not-owns-or-knows.ensures;
-      shelves = c.drop-loan.ensures;
-      layout = c.end-loan.ensures.layout;
-      ledger = c.end-loan.ensures.ledger;
+      ours = sym c.if-not-owns_or_knows.ensures;
+      shelves = c.drop_loan.ensures;
+      layout = c.end_loan.ensures.layout;
+      ledger = c.end_loan.ensures.ledger;
       out = ap (λ (l : Ledger). l.out) c.ledger.ensures.value;
     })
-    (eqb-true _ _ (sym c.if-not-has-length.ensures))
+    (eqb-true _ _ (sym c.if-not-has_length.ensures))
     (c.restore.ensures ∙ ap₂ (λ (ms : List Mark) (ks : List ℕ). restored c.args.loan c.args.file.now ms ks) c.elements.ensures.value c.elements-2.ensures.value)

@@ -4,6 +4,6 @@ use Rattle.loans.proofs.job.Job.keep.Goals as goal
 
 pub returns : goal.returns
 returns c = record {
-  rule = c.keep-on.ensures;
-  handed = kept_called c.args.loan c.args.self.now [] c.args.shelves.now c.keep-on.result c.keep-on.new.self [] c.keep-on.new.shelves (c.keep-on.ensures []);
+  rule = c.keep_on.ensures;
+  handed = kept_called c.args.loan c.args.self.now [] c.args.shelves.now c.keep_on.result c.keep_on.new.self [] c.keep_on.new.shelves (c.keep_on.ensures []);
 }

@@ -5,11 +5,11 @@ use Rattle.loans.proofs.job.Job.keep_on.Goals as goal
 
 pub returns : goal.returns
 returns c f =
-    keep_carried {s = c.args.self.now} {t = c.end-loan.new.self} {v = c.args.shelves.now} (record {
+    keep_carried {s = c.args.self.now} {t = c.end_loan.new.self} {v = c.args.shelves.now} (record {
       loan = c.in-Some.ensures;
-      ours = sym c.if-not-owns-or-knows.ensures;
-      shelves = c.drop-loan.ensures;
-      layout = c.end-loan.ensures.layout;
-      ledger = c.end-loan.ensures.ledger;
+      ours = sym c.if-not-owns_or_knows.ensures;
+      shelves = c.drop_loan.ensures;
+      layout = c.end_loan.ensures.layout;
+      ledger = c.end_loan.ensures.ledger;
       out = ap (λ (l : Ledger). l.out) c.ledger.ensures.value;
     }) f

@@ -1,5 +1,4 @@
 use Rattle.std.proofs.Common.{◌≡◌, List, get_or, ap, ◌∙◌}
-use Rattle.loans.specs.declared.ledger.Ledger.{Ledger}
 use Rattle.loans.specs.declared.ledger.Loan.{Loan}
 use Rattle.loans.specs.Books.{no_loan, outs}
 use Rattle.loans.proofs.Counting.{out_inside}

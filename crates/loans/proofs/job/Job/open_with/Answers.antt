@@ -5,6 +5,6 @@ use Rattle.loans.proofs.job.Job.open_with.Goals as goal
 pub returns-in-Err : goal.returns-in-Err
 returns-in-Err g c = (
   subst (λ (h : List ℕ). Opened h (length c.args.file.now) (g.F.Family.row_bytes c.args.family.now) (g.F.Family.rows c.args.family.now) (Err c.in-Err.refusal))
-      c.head-of.ensures c.in-Err.ensures,
+      c.head_of.ensures c.in-Err.ensures,
   refl,
 )

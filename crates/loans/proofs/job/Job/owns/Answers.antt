@@ -1,6 +1,6 @@
 use Rattle.std.proofs.Common.{ℕ, ◌≤◌, List, length, sym, ap, ◌∙◌, subst, arith}
 use Rattle.shelf.specs.declared.Shelf.{Shelf}
-use Rattle.shelf.specs.Model.{contents, count_of}
+use Rattle.shelf.specs.Model.{contents}
 use Rattle.shelf.proofs.Shelves.{counted, count_within, capacity_capped}
 use Rattle.loans.specs.declared.ledger.Loan.{Loan}
 use Rattle.loans.specs.declared.mark.Mark.{Mark}
@@ -25,8 +25,8 @@ pub returns-in-Some : goal.returns-in-Some
 returns-in-Some c =
     let v : Shelf ℕ = c.bytes.result.now in
     owned c.args.self.now c.args.shelves.now c.ledger-ledger.result.now c.outs.result.now c.outs-in-Some.result.now c.elements-marks.result.now
-    c.count-covered.result c.in-Some.counts c.do-agree.result
+    c.count-covered.result c.in-Some.counts c.do_agree.result
     c.ledger-ledger.ensures.value c.outs.ensures c.outs-in-Some.ensures
     (c.elements-marks.ensures.value ∙ ap contents c.marks.ensures)
     (c.count-covered.ensures.value ∙ sym (counted v) ∙ ap (λ (x : Shelf ℕ). length (contents x)) c.bytes.ensures)
-    c.if-marks-ledger.false c.if-covered-ledger.false c.in-Some.ensures c.do-agree.ensures
+    c.if-marks-ledger.false c.if-covered-ledger.false c.in-Some.ensures c.do_agree.ensures

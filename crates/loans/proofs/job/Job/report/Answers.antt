@@ -1,7 +1,5 @@
-use Rattle.std.proofs.Common.{◌≡◌, length, sym, ap, ◌∙◌}
+use Rattle.std.proofs.Common.{length, sym, ◌∙◌}
 use Rattle.loans.specs.Books.{outs}
-use Rattle.loans.specs.declared.ledger.Ledger.{Ledger}
-use Rattle.loans.specs.declared.ledger.Report.{Report}
 use Rattle.loans.proofs.Counting.{out_count}
 use Rattle.loans.proofs.job.Job.report.Goals as goal
 
