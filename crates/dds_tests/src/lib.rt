@@ -1,3 +1,5 @@
+#![tactic(auto)]
+
 // Tests of the crate dds. They stand in a crate of their own, so that dds is not proved a second time with them.
 #[cfg(test)]
 mod expected;

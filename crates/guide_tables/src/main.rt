@@ -1,6 +1,8 @@
 // The size tables of Microsoft's DDS programming guide, computed by the library. The expected output, in the file stdout beside
 // this crate's src, was made by tools/guide_tables.py, which adds up the sizes that the guide prints and counts pixels and blocks;
 // it uses none of this code.
+#![tactic(auto)]
+
 use dds::{Layout, measured_figures};
 use formats::BuiltInCodes;
 use refusal::Refusal;

@@ -1,4 +1,6 @@
 // What is told of a DDS file: its facts, a line for each piece, and whose byte stands at a place.
+#![tactic(auto)]
+
 mod facts;
 mod row;
 mod text;

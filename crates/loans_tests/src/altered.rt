@@ -10,7 +10,7 @@ use loans::{Job, Shelves};
 use shelf::Shelf;
 use std::alloc::Global;
 use std::process::Abort;
-use std::test::*;
+use std::test::Fail;
 
 // Calls that need the job's shelves, the last on a loan with no strokes. They come before a full shelf too: five marks fill it.
 const REFUSED: &[Row<'static>] = &[
@@ -94,10 +94,8 @@ fn base(rt: HostRuntime) -> Result<(), Fail> {
 #[test]
 fn foreign_shelves(rt: HostRuntime) -> Result<(), Fail> {
     let (mut job, file) = base_job(&rt, rt.alloc())?;
-    for (position, stock) in FOREIGN.iter().enumerate() {
-        check_on_stock(&rt, rt.alloc(), &mut job, &file, *stock, REFUSED).note(format_args!(
-            "shelves {position}"
-        ))?;
+    for stock in FOREIGN {
+        check_on_stock(&rt, rt.alloc(), &mut job, &file, *stock, REFUSED)?;
     }
     Ok(())
 }
@@ -105,31 +103,41 @@ fn foreign_shelves(rt: HostRuntime) -> Result<(), Fail> {
 fn check_call(
     rt: &impl Abort,
     heap: Global,
+    position: usize,
     trial: &Trial<'_>,
     job: &mut Job,
     file: &mut [u8],
     shelves: &mut Shelves<'_>,
 ) -> Result<(), Fail> {
-    assert_eq!(rt; answer_to(trial.line, job, file, shelves), Ok(trial.answer));
+    assert_eq!(rt;
+        answer_to(trial.line, job, file, shelves),
+        Ok(trial.answer),
+        "trial {position}"
+    );
     let left = Snapshot::of(heap, job, file, shelves)?;
-    left.check_same(&Snapshot::told(heap, ARRAY_HEAD, &trial.after)?)?;
+    left.check_same(rt, &Snapshot::told(heap, ARRAY_HEAD, &trial.after)?);
     let next = answer_to(Line::Undo(4, 9), job, file, shelves);
     assert_ne!(rt; next, Err(18), "the shelves are the job's still");
     Ok(())
 }
 
-fn check_trial(rt: &impl Abort, heap: Global, trial: &Trial<'_>) -> Result<(), Fail> {
+fn check_trial(
+    rt: &impl Abort,
+    heap: Global,
+    position: usize,
+    trial: &Trial<'_>,
+) -> Result<(), Fail> {
     let (mut job, mut file) = base_job(rt, heap)?;
     let mut marks = [NO_MARK; 5];
     let mut bytes = [0u8; 20];
     let mut shelves = shelves_with(&mut marks, &mut bytes, trial.stock)?;
-    check_call(rt, heap, trial, &mut job, &mut file, &mut shelves)
+    check_call(rt, heap, position, trial, &mut job, &mut file, &mut shelves)
 }
 
 #[test]
 fn altered_shelves_that_pass(rt: HostRuntime) -> Result<(), Fail> {
     for (position, trial) in PASSING.iter().enumerate() {
-        check_trial(&rt, rt.alloc(), trial).note(format_args!("trial {position}"))?;
+        check_trial(&rt, rt.alloc(), position, trial)?;
     }
     Ok(())
 }
@@ -147,8 +155,7 @@ fn which_refusal_comes_first(rt: HostRuntime) -> Result<(), Fail> {
         &file,
         none,
         FIRST_AT_OTHER_LENGTH,
-    )
-    .note("one byte more")?;
+    )?;
     file.truncate(327);
     check_on_stock(
         &rt,
@@ -157,9 +164,8 @@ fn which_refusal_comes_first(rt: HostRuntime) -> Result<(), Fail> {
         &file,
         none,
         FIRST_AT_OTHER_LENGTH,
-    )
-    .note("one byte less")?;
-    check_on_stock(&rt, rt.alloc(), &mut job, &[], none, FIRST_AT_OTHER_LENGTH).note("no bytes")
+    )?;
+    check_on_stock(&rt, rt.alloc(), &mut job, &[], none, FIRST_AT_OTHER_LENGTH)
 }
 
 #[test]

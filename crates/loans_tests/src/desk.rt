@@ -5,7 +5,8 @@ use loans::{Docket, Job, Mark, Shelves, scrap};
 use refusal::Refusal;
 use shelf::Shelf;
 use std::alloc::Global;
-use std::test::*;
+use std::process::Abort;
+use std::test::Fail;
 
 pub(crate) const NO_MARK: Mark = Mark {
     loan: 0,
@@ -121,14 +122,16 @@ impl Snapshot {
         })
     }
 
-    pub(crate) fn check_same(&self, other: &Snapshot) -> Result<(), Fail> {
-        assert!(self.file.as_slice() == other.file.as_slice(), "the file");
-        assert!(self.marks.as_slice() == other.marks.as_slice(), "the marks");
-        assert!(
+    pub(crate) fn check_same(&self, rt: &impl Abort, other: &Snapshot) {
+        assert!(rt; self.file.as_slice() == other.file.as_slice(), "the file");
+        assert!(rt;
+            self.marks.as_slice() == other.marks.as_slice(),
+            "the marks"
+        );
+        assert!(rt;
             self.kept.as_slice() == other.kept.as_slice(),
             "the kept bytes"
         );
-        assert_eq!(self.report, other.report, "the report");
-        Ok(())
+        assert_eq!(rt; self.report, other.report, "the report");
     }
 }

@@ -12,7 +12,7 @@ use refusal::Refusal;
 use shelf::Shelf;
 use std::alloc::Global;
 use std::process::Abort;
-use std::test::*;
+use std::test::Fail;
 
 const FIRST: Piece = Piece {
     element: 0,
@@ -115,7 +115,7 @@ fn check_unscrapped(
 ) -> Result<(), Fail> {
     let before = Snapshot::of(heap, job, file, shelves);
     let answer = scrap(docket, job, file, shelves);
-    before?.check_same(&Snapshot::of(heap, job, file, shelves)?)?;
+    before?.check_same(rt, &Snapshot::of(heap, job, file, shelves)?);
     assert_eq!(rt; number_of(answer), refusal);
     Ok(())
 }

@@ -8,7 +8,7 @@ use refusal::Refusal;
 use shelf::Shelf;
 use std::alloc::Global;
 use std::process::Abort;
-use std::test::*;
+use std::test::Fail;
 
 // A call, with its arguments in the order in which an order line has them.
 #[derive(Clone, Copy)]
@@ -120,6 +120,7 @@ pub(crate) fn answer_to(
 pub(crate) fn check_row(
     rt: &impl Abort,
     heap: Global,
+    position: usize,
     row: Row<'_>,
     job: &mut Job,
     file: &mut [u8],
@@ -128,11 +129,11 @@ pub(crate) fn check_row(
     let (line, expected) = row;
     let before = Snapshot::of(heap, job, file, shelves)?;
     let answer = answer_to(line, job, file, shelves);
-    assert_eq!(rt; answer, expected);
-    match answer {
-        Ok(_) => Ok(()),
-        Err(_) => before.check_same(&Snapshot::of(heap, job, file, shelves)?),
+    assert_eq!(rt; answer, expected, "the call at {position}");
+    if answer.is_err() {
+        before.check_same(rt, &Snapshot::of(heap, job, file, shelves)?);
     }
+    Ok(())
 }
 
 pub(crate) fn check_rows(
@@ -143,15 +144,14 @@ pub(crate) fn check_rows(
     file: &mut [u8],
     shelves: &mut Shelves<'_>,
 ) -> Result<(), Fail> {
-    let mut number = 0u32;
-    for row in rows {
-        number = number.saturating_add(1);
-        check_row(rt, heap, *row, job, file, shelves).note(format_args!("call {number}"))?;
+    for (position, row) in rows.iter().enumerate() {
+        check_row(rt, heap, position, *row, job, file, shelves)?;
     }
     Ok(())
 }
 
 fn check_state(
+    rt: &impl Abort,
     heap: Global,
     script: &Script<'_>,
     job: &Job,
@@ -159,7 +159,8 @@ fn check_state(
     shelves: &Shelves<'_>,
 ) -> Result<(), Fail> {
     let left = Snapshot::of(heap, job, file, shelves)?;
-    left.check_same(&Snapshot::told(heap, script.head, &script.after)?)
+    left.check_same(rt, &Snapshot::told(heap, script.head, &script.after)?);
+    Ok(())
 }
 
 // Call by call, on a job whose docket is spent already.
@@ -172,7 +173,7 @@ fn single_calls(
 ) -> Result<(), Fail> {
     let mut job = opened(file)?;
     check_rows(rt, heap, script.lines, &mut job, file, shelves)?;
-    check_state(heap, script, &job, file, shelves)
+    check_state(rt, heap, script, &job, file, shelves)
 }
 
 fn check_answers(rt: &impl Abort, rows: &[Row<'_>], answers: &[Answer]) -> Result<(), Fail> {
@@ -298,7 +299,7 @@ fn check_left(
     desk: (&[u8], &Shelves<'_>),
     made: (&[Call<'_>], &[Answer]),
 ) -> Result<(), Fail> {
-    check_state(heap, script, job, desk.0, desk.1)?;
+    check_state(rt, heap, script, job, desk.0, desk.1)?;
     check_run(rt, script, job, made.0, made.1)
 }
 
@@ -339,6 +340,6 @@ fn check_way(rt: &impl Abort, heap: Global, script: &Script<'_>, whole: bool) ->
 
 // The script through `run`, and through the calls one by one.
 pub(crate) fn check_script(rt: &impl Abort, heap: Global, script: &Script<'_>) -> Result<(), Fail> {
-    check_way(rt, heap, script, true).note("through run")?;
-    check_way(rt, heap, script, false).note("call by call")
+    check_way(rt, heap, script, true)?;
+    check_way(rt, heap, script, false)
 }

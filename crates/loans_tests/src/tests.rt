@@ -10,7 +10,7 @@ use dds::Piece;
 use loans::{Job, Shelves};
 use shelf::Shelf;
 use std::process::Abort;
-use std::test::*;
+use std::test::Fail;
 
 #[test]
 fn worked_example(rt: HostRuntime) -> Result<(), Fail> {

@@ -8,7 +8,6 @@ use Rattle.dds.specs.Places.{exists_in, area_in}
 use Rattle.loans.specs.declared.call.Answer.{Answer}
 use Rattle.loans.specs.declared.call.Answer.TheVariants.{Done, Refused}
 use Rattle.loans.specs.declared.call.Call.{Call}
-use Rattle.loans.specs.declared.call.Call.TheVariants as Call
 use Rattle.painters.specs.declared.Painter.{Painter}
 use Rattle.loans.specs.Books.{no_loan}
 use Rattle.loans.specs.Stocks.{Stock}

@@ -1,4 +1,6 @@
 // Whose stroke lies over a byte, after a run of calls.
+#![tactic(auto)]
+
 ghost use Rattle.std.specs.Prelude.{◌≡◌, ◌<◌, ◌≤◌, map, length, take, drop, Some};
 ghost use Rattle.loans.specs.Jobs.{book_of};
 ghost use Rattle.loans.specs.Strokes.{painting_of, stroke_place};

@@ -1,4 +1,6 @@
 // Lists the pieces of a DDS file, or tells whose bytes stand at places of it.
+#![tactic(auto)]
+
 use dds::{Facts, Layout};
 use formats::BuiltInCodes;
 use refusal::Refusal;
@@ -91,7 +93,7 @@ fn main(rt: HostRuntime) -> io::Result<()> {
     let Some(path) = args.first() else {
         return println!(rt; "{USAGE}");
     };
-    if path == "--help" {
+    if path.as_str() == "--help" {
         return println!(rt; "{USAGE}");
     }
     match run(&rt, path.as_str(), &args[1..]) {

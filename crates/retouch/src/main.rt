@@ -1,5 +1,7 @@
 // Retouches a DDS texture under loan, from opening to shipping, and prints what was done. The expected output, in the file stdout
 // beside this crate's src, was made by tools/expected_retouch.py, which uses none of this code.
+#![tactic(auto)]
+
 mod session;
 mod text;
 
@@ -154,7 +156,7 @@ fn main(rt: HostRuntime) -> io::Result<()> {
     let Some(path) = args.first() else {
         return println!(rt; "{USAGE}");
     };
-    if path == "--help" {
+    if path.as_str() == "--help" {
         return println!(rt; "{USAGE}");
     }
     if args.len() > 2 {

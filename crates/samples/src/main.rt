@@ -1,5 +1,7 @@
 // Lists the pieces of files that other tools wrote, each with the sum of its bytes. The expected output, in the file stdout beside
 // this crate's src, was made by tools/expected_samples.py, which reads the headers itself; it uses none of this code.
+#![tactic(auto)]
+
 use dds::{Layout, Piece, head_of};
 use formats::BuiltInCodes;
 use listing::{Facts, Row};

@@ -1,4 +1,6 @@
 // Shelves: bounded lists of elements of one kind, in order, in memory that the caller lends.
+#![tactic(auto)]
+
 ghost use Rattle.std.specs.Prelude.{◌≡◌, ℕ, ◌+◌, nat_le};
 ghost use Rattle.shelf.specs.Model.{contents, count_of, capacity_of, space_of};
 ghost use Rattle.shelf.specs.Laws.{Bounded};

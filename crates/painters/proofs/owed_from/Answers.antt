@@ -9,14 +9,14 @@ loop-position-init c =
     (shorter c.args.calls.now c.args.answers.now c.min-position.result c.min-position.ensures)
     (omega (arith, c.min-position.ensures)) (omega (arith, c.min-position.ensures))
 
-pub returns-in-err-owed : goal.returns-in-err-owed
-returns-in-err-owed c =
-    c.from-residual.ensures
-    ∙ sym (owed_gone c.args.calls.now c.args.answers.now c.args.loan c.args.from c.loop-position.position c.loop-position.owed c.loop-position.invariant c.loop-position-test.true no_call no_answer (sym c.in-err-owed.was ∙ c.owed-before.ensures))
+pub returns-in_err-owed : goal.returns-in_err-owed
+returns-in_err-owed c =
+    c.from_residual.ensures
+    ∙ sym (owed_gone c.args.calls.now c.args.answers.now c.args.loan c.args.from c.loop-position.position c.loop-position.owed c.loop-position.invariant c.loop-position-test.true no_call no_answer (sym c.in_err-owed.was ∙ c.owed_before.ensures))
 
 pub loop-position-preserved : goal.loop-position-preserved
 loop-position-preserved c =
-    owed_next c.args.calls.now c.args.answers.now c.args.loan c.args.from c.loop-position.position c.loop-position.owed c.loop-position.invariant c.loop-position-test.true no_call no_answer c.in-ok-owed.owed (sym c.in-ok-owed.was ∙ c.owed-before.ensures)
+    owed_next c.args.calls.now c.args.answers.now c.args.loan c.args.from c.loop-position.position c.loop-position.owed c.loop-position.invariant c.loop-position-test.true no_call no_answer c.in_ok-owed.owed (sym c.in_ok-owed.was ∙ c.owed_before.ensures)
 
 pub returns : goal.returns
 returns c = sym (owed_there c.args.calls.now c.args.answers.now c.args.loan c.args.from c.loop-position.position c.loop-position.owed c.loop-position.invariant c.loop-position-test.false)

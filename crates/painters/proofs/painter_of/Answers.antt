@@ -12,7 +12,7 @@ pub returns-in-Some : goal.returns-in-Some
 returns-in-Some c = walk_found c.args.job.now.layout c.args.calls.now c.args.answers.now c.args.place c.loop-position.position c.loop-position.invariant c.loop-position-test.true c.in-Some.painter c.in-Some.ensures
 
 pub loop-position-preserved : goal.loop-position-preserved
-loop-position-preserved c = walk_past c.args.job.now.layout c.args.calls.now c.args.answers.now c.args.place c.loop-position.position c.loop-position.invariant c.loop-position-test.true c.in-default.ensures
+loop-position-preserved c = walk_past c.args.job.now.layout c.args.calls.now c.args.answers.now c.args.place c.loop-position.position c.loop-position.invariant c.loop-position-test.true c.in_default.ensures
 
 pub returns : goal.returns
 returns c = walk_all c.args.job.now.layout c.args.calls.now c.args.answers.now c.args.place c.loop-position.position c.loop-position.invariant c.loop-position-test.false

@@ -1,4 +1,4 @@
-use Rattle.std.proofs.Common.{◌≡◌, ◌+◌, ◌≤◌, rules}
+use Rattle.std.proofs.Common.{◌+◌, ◌≤◌, rules}
 use Rattle.std.proofs.lemmas.List.{places}
 use Rattle.shelf.specs.Model.{contents, count_of}
 use Rattle.shelf.proofs.Runs.{run_within}
