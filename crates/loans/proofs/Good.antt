@@ -1,6 +1,6 @@
 -- The invariant of a history, over every loan ever granted, the loans out and the strokes that stand; and that each call keeps it.
 use Rattle.std.proofs.Common.{◌≡◌, ℕ, suc, ◌+◌, ◌*◌, ◌<◌, ◌≤◌, true, false, cond, not, eqb, ◌⊎◌, List, [], ◌∷◌, ◌++◌, reverse, length, sym, refl, ap, ◌∙◌, subst, inl, inr, mul-le-mul_right, suc-mul, mul_comm, arith}
-use Rattle.std.specs.List.{AllByRecursion as All}
+use Rattle.std.specs.List.{AllByRecursion}
 use Rattle.std.proofs.ByRecursion.{All-weaker, All-push, all_kept_by}
 use Rattle.std.proofs.lemmas.List.{length-append, length_push, flat_map_more}
 use Rattle.std.proofs.lemmas.List.FromFn.{length-map-range_with_len}
@@ -52,15 +52,15 @@ pub record Fits (mm mb : ℕ) (ss : List Stroke) : Type 0 where
 -- of the loans ever granted, the loans out and the strokes that stand
 pub record Good (t : Table) (mm mb : ℕ) (opening : List ℕ) (ls os : List Loan) (ss : List Stroke) : Type 0 where
   pub numbers : Numbered ls
-  pub pieces : All (OfPiece t) ls
-  pub lent : All (Lent t ls) os
+  pub pieces : AllByRecursion (OfPiece t) ls
+  pub lent : AllByRecursion (Lent t ls) os
   pub once : Rising os
   pub single : Single os
-  pub laid : All (Laid opening ls) ss
+  pub laid : AllByRecursion (Laid opening ls) ss
   pub sound : Sound opening os ss
   pub fits : Fits mm mb (undoable os ss)
 
-pub all_sized : (opening : List ℕ) (ls : List Loan) (ss : List Stroke) → All (Laid opening ls) ss → All (Sized opening) ss
+pub all_sized : (opening : List ℕ) (ls : List Loan) (ss : List Stroke) → AllByRecursion (Laid opening ls) ss → AllByRecursion (Sized opening) ss
 all_sized opening ls ss h = All-weaker (Laid opening ls) (Sized opening) (λ s r. r.sized) ss h
 
 fits_fewer : (mm mb : ℕ) (v w : List Stroke) → Fewer w v → Fits mm mb v → Fits mm mb w
@@ -103,7 +103,7 @@ module _ (ls : List Loan) (numbers : Numbered ls) (new : Loan) (fresh : new.numb
   known_old : (m : ℕ) → is_out ls m ≡ true → is_out (new ∷ ls) m ≡ true
   known_old m h = elim (eqb m new.number) as (λ b. cond b true (is_out ls m) ≡ true) [ true ↦ refl | false ↦ h ]
 
-  pub rows_old : (ss : List Stroke) → All (InRow ls) ss → All (InRow (new ∷ ls)) ss
+  pub rows_old : (ss : List Stroke) → AllByRecursion (InRow ls) ss → AllByRecursion (InRow (new ∷ ls)) ss
   rows_old ss h = All-weaker (InRow ls) (InRow (new ∷ ls)) (λ s r. row_in ls (new ∷ ls) s (sym (loan_same s.painting.loan r.lent)) (known_old s.painting.loan r.lent) r) ss h
 
 module _ (t : Table) (mm mb : ℕ) (opening : List ℕ) where
@@ -121,7 +121,7 @@ module _ (t : Table) (mm mb : ℕ) (opening : List ℕ) where
     pub loan_known : (n : ℕ) → is_out os n ≡ true → the_loan ls n ≡ the_loan os n
     loan_known n h = ap (the_loan ls) (sym (the_out os n h).1) ∙ (out_lent n h).traced
 
-    pub all_even : All Even (undoable os ss)
+    pub all_even : AllByRecursion Even (undoable os ss)
     all_even = undoable_all os Even ss (All-weaker (Laid opening ls) Even (λ s r. r.sized.0) ss good.laid)
 
     -- no byte lies in the spans of two loans out
@@ -276,7 +276,7 @@ module _ (t : Table) (mm mb : ℕ) (opening : List ℕ) where
       still_out : (m : ℕ) → is_out (less_all (is_number n) os) m ≡ true → is_out os m ≡ true
       still_out m h = (and_parts _ _ (sym (out_less os n m) ∙ h)).0
 
-      lent_end : All (Lent t ls) (less_all (is_number n) os)
+      lent_end : AllByRecursion (Lent t ls) (less_all (is_number n) os)
       lent_end = all_kept_by (λ o. not (is_number n o)) (Lent t ls) os good.lent
 
       single_end : Single (less_all (is_number n) os)

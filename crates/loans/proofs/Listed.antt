@@ -1,38 +1,38 @@
 -- Lists, tests and members.
 use Rattle.std.proofs.Common.{◌≡◌, Bool, true, false, cond, not, ◌&&◌, ◌⊎◌, List, [], ◌∷◌, ◌++◌, map, reverse, filter, sym, refl, ap, ◌∙◌, inl, inr, append-nil}
 use mathlib.Core.List.{reverse-cons}
-use Rattle.std.specs.List.{AllByRecursion as All}
+use Rattle.std.specs.List.{AllByRecursion}
 use Rattle.std.proofs.lemmas.List.Elements.{filter-append}
 use Rattle.std.proofs.ByRecursion.{All-push}
 use Rattle.std.proofs.lemmas.Bool.{false≢true}
 use Rattle.loans.specs.Lists.{Among, first_or, some_of, less_first, less_all}
 
 module _ {A : Type 0} where
-  pub all_right : (P : A → Type 0) (xs ys : List A) → All P (xs ++ ys) → All P ys
+  pub all_right : (P : A → Type 0) (xs ys : List A) → AllByRecursion P (xs ++ ys) → AllByRecursion P ys
   all_right P [] ys h = h
   all_right P (x ∷ xs) ys h = all_right P xs ys h.1
 
   -- all but one in the middle
-  pub all_without : (P : A → Type 0) (xs : List A) (k : A) (ys : List A) → All P (xs ++ k ∷ ys) → All P (xs ++ ys)
+  pub all_without : (P : A → Type 0) (xs : List A) (k : A) (ys : List A) → AllByRecursion P (xs ++ k ∷ ys) → AllByRecursion P (xs ++ ys)
   all_without P [] k ys h = h.1
   all_without P (x ∷ xs) k ys h = (h.0, all_without P xs k ys h.1)
 
-  pub all_both : (P Q R : A → Type 0) → ((x : A) → P x → Q x → R x) → (xs : List A) → All P xs → All Q xs → All R xs
+  pub all_both : (P Q R : A → Type 0) → ((x : A) → P x → Q x → R x) → (xs : List A) → AllByRecursion P xs → AllByRecursion Q xs → AllByRecursion R xs
   all_both P Q R f [] h k = tt
   all_both P Q R f (x ∷ xs) h k = (f x h.0 k.0, all_both P Q R f xs h.1 k.1)
 
-  pub all_of : (P : A → Type 0) → ((x : A) → P x) → (xs : List A) → All P xs
+  pub all_of : (P : A → Type 0) → ((x : A) → P x) → (xs : List A) → AllByRecursion P xs
   all_of P f [] = tt
   all_of P f (x ∷ xs) = (f x, all_of P f xs)
 
-  pub all_among : (P : A → Type 0) (xs : List A) (a : A) → All P xs → Among xs a → P a
+  pub all_among : (P : A → Type 0) (xs : List A) (a : A) → AllByRecursion P xs → Among xs a → P a
   all_among P [] a h m = absurd m
   all_among P (x ∷ xs) a h (inl e) = rw e h.0
   all_among P (x ∷ xs) a h (inr m) = all_among P xs a h.1 m
 
   module _ (p : A → Bool) where
     abbrev pub None : List A → Type 0
-    None xs = All (λ x. p x ≡ false) xs
+    None xs = AllByRecursion (λ x. p x ≡ false) xs
 
     pub less_all_none : (xs : List A) → None xs → less_all p xs ≡ xs
     less_all_none [] h = refl
@@ -85,9 +85,9 @@ module _ {A : Type 0} where
         rw (reverse-cons x xs, filter-append p (reverse xs) (x ∷ []), kept_by_reverse xs)
         (elim (p x) as (λ b. reverse (filter p xs) ++ cond b (x ∷ []) [] ≡ reverse (cond b (x ∷ filter p xs) (filter p xs))) [ true ↦ sym (reverse-cons x (filter p xs)) | false ↦ append-nil (reverse (filter p xs)) ])
 
-    pub all_less_first : (P : A → Type 0) (xs : List A) → All P xs → All P (less_first p xs)
+    pub all_less_first : (P : A → Type 0) (xs : List A) → AllByRecursion P xs → AllByRecursion P (less_first p xs)
     all_less_first P [] h = tt
-    all_less_first P (x ∷ xs) h = elim (p x) as (λ b. All P (cond b xs (x ∷ less_first p xs))) [ true ↦ h.1 | false ↦ (h.0, all_less_first P xs h.1) ]
+    all_less_first P (x ∷ xs) h = elim (p x) as (λ b. AllByRecursion P (cond b xs (x ∷ less_first p xs))) [ true ↦ h.1 | false ↦ (h.0, all_less_first P xs h.1) ]
 
     pub less_all_first : (xs : List A) → less_all p xs ≡ less_all p (less_first p xs)
     less_all_first [] = refl
@@ -122,7 +122,7 @@ module _ {A : Type 0} where
         go false e (inl s) = inl (record { front = x ∷ s.front; at = s.at; back = s.back; is = ap (λ ys. x ∷ ys) s.is; passes = s.passes; none = (e, s.none) })
         go false e (inr n) = inr (e, n)
 
-  pub kept_by_same : (p q : A → Bool) (xs : List A) → All (λ x. p x ≡ q x) xs → filter p xs ≡ filter q xs
+  pub kept_by_same : (p q : A → Bool) (xs : List A) → AllByRecursion (λ x. p x ≡ q x) xs → filter p xs ≡ filter q xs
   kept_by_same p q [] h = refl
   kept_by_same p q (x ∷ xs) h = rw (h.0, kept_by_same p q xs h.1)
 
@@ -134,7 +134,7 @@ module _ {A : Type 0} where
   kept_by_map f p [] = refl
   kept_by_map f p (x ∷ xs) = elim (p (f x)) as (λ b. cond b (f x ∷ filter p (map f xs)) (filter p (map f xs)) ≡ map f (cond b (x ∷ filter (λ y. p (f y)) xs) (filter (λ y. p (f y)) xs))) [ true ↦ ap (λ ys. f x ∷ ys) (kept_by_map f p xs) | false ↦ kept_by_map f p xs ]
 
-pub all_reverse : {A : Type 0} (P : A → Type 0) (xs : List A) → All P xs → All P (reverse xs)
+pub all_reverse : {A : Type 0} (P : A → Type 0) (xs : List A) → AllByRecursion P xs → AllByRecursion P (reverse xs)
 all_reverse P [] h = tt
 all_reverse P (x ∷ xs) h = rw (reverse-cons x xs) (All-push P (reverse xs) x (all_reverse P xs h.1) h.0)
 

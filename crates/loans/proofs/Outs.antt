@@ -1,6 +1,6 @@
 -- Loans: which are out after one is granted or ends, which strokes of theirs the shelves hold then, and a book's counts.
 use Rattle.std.proofs.Common.{◌≡◌, ℕ, suc, ◌+◌, ◌<◌, ◌≤◌, Bool, true, false, cond, not, ◌&&◌, ◌||◌, eqb, ◌⊎◌, List, [], ◌∷◌, ◌++◌, map, reverse, length, filter, sym, refl, ap, ◌∙◌, subst, inl, inr, arith}
-use Rattle.std.specs.List.{AllByRecursion as All}
+use Rattle.std.specs.List.{AllByRecursion}
 use Rattle.std.proofs.ByRecursion.{All-weaker, All-push, all_kept_by}
 use Rattle.std.proofs.lemmas.Bool.{eqb-true, eqb-false, eq-eqb, ne_eqb, and_right, and_from, or_parts, cases_Bool, both_ways, false≢true}
 use Rattle.dds.specs.declared.piece.Piece.{Piece}
@@ -68,7 +68,7 @@ undoable_cancelled ls n ss = ap reverse (kept_by_twice _ _ ss ∙ kept_by_same _
     same s = rw (out_less ls n s.painting.loan) (and_not (stroke_of n s) (is_out ls s.painting.loan))
 
 -- the shelves of a loan that ended
-pub end_stock : (mm mb : ℕ) (ls : List Loan) (n : ℕ) (ss : List Stroke) → All Even (undoable ls ss)
+pub end_stock : (mm mb : ℕ) (ls : List Loan) (n : ℕ) (ss : List Stroke) → AllByRecursion Even (undoable ls ss)
     → stock_without (shelved mm mb (undoable ls ss)) n ≡ shelved mm mb (undoable (less_all (is_number n) ls) ss)
 end_stock mm mb ls n ss even =
     let ms = kept_by_map mark_of (λ m. not (of_loan n m)) (undoable ls ss) in
@@ -78,9 +78,9 @@ end_stock mm mb ls n ss even =
 -- the numbers rise: no loan is out twice
 abbrev pub Rising : List Loan → Type 0
 Rising [] = Unit {0}
-Rising (l ∷ ls) = All (λ (k : Loan). l.number < k.number) ls × Rising ls
+Rising (l ∷ ls) = AllByRecursion (λ (k : Loan). l.number < k.number) ls × Rising ls
 
-pub rising_push : (ls : List Loan) (l : Loan) → Rising ls → All (λ (k : Loan). k.number < l.number) ls → Rising (ls ++ l ∷ [])
+pub rising_push : (ls : List Loan) (l : Loan) → Rising ls → AllByRecursion (λ (k : Loan). k.number < l.number) ls → Rising (ls ++ l ∷ [])
 rising_push [] l r h = (tt, tt)
 rising_push (x ∷ ls) l r h = (All-push (λ (k : Loan). x.number < k.number) ls l r.0 h.0, rising_push ls l r.1 h.1)
 

@@ -1,6 +1,6 @@
 -- The law over every list of calls, and that the job's own file and shelves are never taken for others.
 use Rattle.std.proofs.Common.{◌≡◌, ℕ, ◌≤◌, true, List, [], ◌∷◌, length, Some, None, Option, sym, refl, ap, ◌∙◌, subst}
-use Rattle.std.specs.List.{AllByRecursion as All}
+use Rattle.std.specs.List.{AllByRecursion}
 use Rattle.std.proofs.lemmas.List.FromFn.{fill_by_all}
 use Rattle.std.proofs.lemmas.List.{length-map}
 use Rattle.refusal.specs.declared.Refusal.{Refusal}
@@ -57,7 +57,7 @@ module _ (t : Table) (number mm mb : ℕ) (opening : List ℕ) (lawful : Lawful 
   -- what holds after a history
   record Stands (s : State) (h : List Event) : Type 0 where
     answers : Answered t number mm mb opening h
-    home : All AtHome h
+    home : AllByRecursion AtHome h
     state : s ≡ here h
     fine : FineIn h
 

@@ -1,6 +1,6 @@
 -- The law of loans and strokes: what holds after every list of calls on a newly opened job with two empty shelves.
 use Rattle.std.specs.Prelude.{◌≡◌, ℕ, ◌+◌, ◌<◌, ◌≤◌, true, List, [], ◌∷◌, length, ◌≢◌}
-use Rattle.std.specs.List.{AllByRecursion as All}
+use Rattle.std.specs.List.{AllByRecursion}
 use Rattle.refusal.specs.declared.Refusal.TheVariants.{OtherLength, ForeignShelves}
 use Rattle.dds.specs.declared.table.Table.{Table}
 use Rattle.dds.specs.Places.{exists_in, area_in}
@@ -56,11 +56,11 @@ pub record Law (t : Table) (number most_marks most_bytes : ℕ) (opening : List 
   pub state : s ≡ told t number most_marks most_bytes opening h
   pub same_length : length s.file ≡ length opening
   pub answers : Answered t number most_marks most_bytes opening h
-  pub home : All AtHome h
+  pub home : AllByRecursion AtHome h
   pub numbers : Numbered (lent t h)
-  pub pieces : All (OfPiece t) (lent t h)
+  pub pieces : AllByRecursion (OfPiece t) (lent t h)
   pub apart : Apart (out_in t h)
-  pub rows : All (InRow (lent t h)) (ever_laid t opening h)
+  pub rows : AllByRecursion (InRow (lent t h)) (ever_laid t opening h)
   pub balance : length (lent t h) ≡ keeps_in h + cancels_in h + length (out_in t h)
   pub marks_fit : length s.stock.marks ≤ most_marks
   pub bytes_fit : length s.stock.bytes ≤ most_bytes

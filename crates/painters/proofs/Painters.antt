@@ -1,6 +1,6 @@
 -- Which strokes stand, read from the newest call to the oldest.
 use Rattle.std.proofs.Common.{◌≡◌, ℕ, zero, suc, ◌+◌, ◌-◌, ◌<◌, ◌≤◌, min, Bool, true, false, cond, not, ◌&&◌, eqb, ◌⊎◌, List, [], ◌∷◌, ◌++◌, map, length, get_or, take, drop, Some, None, Option, sym, refl, ap, ◌∙◌, subst, inl, inr, ⊎_elim, arith}
-use Rattle.std.specs.List.{AllByRecursion as All}
+use Rattle.std.specs.List.{AllByRecursion}
 use Rattle.std.proofs.lemmas.List.{drop_more, at_drop_all}
 use Rattle.std.proofs.lemmas.Bool.{true≢false, cases_lt, eqb-true, eq-eqb, ne_eqb, cond-true, cond-false}
 use Rattle.dds.specs.declared.area.Area.{Area}
@@ -202,7 +202,7 @@ found_ended t n ls o m f = go (eqb m n) refl o f
         }
 
 -- loans that were granted before are among those granted
-pub pieces_before : (t : Table) (d : Deed) (r : Answer) (h : List Event) → All (OfPiece t) (lent t (record { call = d; answer = r } ∷ h)) → All (OfPiece t) (lent t h)
+pub pieces_before : (t : Table) (d : Deed) (r : Answer) (h : List Event) → AllByRecursion (OfPiece t) (lent t (record { call = d; answer = r } ∷ h)) → AllByRecursion (OfPiece t) (lent t h)
 pieces_before t d (Refused e) h a = a
 pieces_before t (lend p who) (Done x) h a = a.1
 pieces_before t (paint p) (Done x) h a = a
@@ -210,7 +210,7 @@ pieces_before t (undo m who) (Done x) h a = a
 pieces_before t (keep m) (Done x) h a = a
 pieces_before t (cancel m) (Done x) h a = a
 
-found_after : (t : Table) (n : ℕ) (d : Deed) (r : Answer) (h : List Event) → All (OfPiece t) (lent t (record { call = d; answer = r } ∷ h))
+found_after : (t : Table) (n : ℕ) (d : Deed) (r : Answer) (h : List Event) → AllByRecursion (OfPiece t) (lent t (record { call = d; answer = r } ∷ h))
     → PieceFound t n (out_in t h) (piece_out n h) → PieceFound t n (out_in t (record { call = d; answer = r } ∷ h)) (piece_after n (piece_out n h) d r)
 found_after t n d (Refused e) h a f = f
 found_after t n (lend p who) (Done x) h a f = found_lent t n (out_in t h) (piece_out n h) x p who a.0.0 f
@@ -219,7 +219,7 @@ found_after t n (undo m who) (Done x) h a f = f
 found_after t n (keep m) (Done x) h a f = found_ended t n (out_in t h) (piece_out n h) m f
 found_after t n (cancel m) (Done x) h a f = found_ended t n (out_in t h) (piece_out n h) m f
 
-found : (t : Table) (n : ℕ) (h : List Event) → All (OfPiece t) (lent t h) → PieceFound t n (out_in t h) (piece_out n h)
+found : (t : Table) (n : ℕ) (h : List Event) → AllByRecursion (OfPiece t) (lent t h) → PieceFound t n (out_in t h) (piece_out n h)
 found t n [] a = refl
 found t n (e ∷ h) a = found_after t n e.call e.answer h a (found t n h (pieces_before t e.call e.answer h a))
 
@@ -241,7 +241,7 @@ newest_first s ss place false true e = refl
 newest_first s ss place false false e = refl
 
 -- one call further back
-pub walk_one : (t : Table) (opening : List ℕ) (h : List Event) (o : Owes) (place : ℕ) (d : Deed) (r : Answer) → All (OfPiece t) (lent t h)
+pub walk_one : (t : Table) (opening : List ℕ) (h : List Event) (o : Owes) (place : ℕ) (d : Deed) (r : Answer) → AllByRecursion (OfPiece t) (lent t h)
     → newest_over (survivors o (standing t opening (record { call = d; answer = r } ∷ h))) place
     ≡ or_else (painter_by t (λ n. piece_out n h) o place d r) (newest_over (survivors (λ m. owed_before m (o m) d r) (standing t opening h)) place)
 walk_one t opening h o place d (Refused e) a = refl
@@ -395,11 +395,11 @@ owed_last cs rs n from k b few inside =
 
 -- the law has it that the loans of a run are of pieces that exist
 traced : (y : Layout) (ds : List Deed) (rs : List Answer) (place : ℕ) (r : Option Painter)
-    → (All (OfPiece y.table) (lent y.table (history_of ds rs)) → Newest y.table ds rs place r) → Traced y.table ds rs place r
+    → (AllByRecursion (OfPiece y.table) (lent y.table (history_of ds rs)) → Newest y.table ds rs place r) → Traced y.table ds rs place r
 traced y ds rs place r newest =
     record {
       run = λ number file k same marks bytes answers.
-          newest (subst (λ (x : List Answer). All (OfPiece y.table) (lent y.table (history_of ds x))) (sym answers) (law_run y number file k ds same marks bytes).pieces);
+          newest (subst (λ (x : List Answer). AllByRecursion (OfPiece y.table) (lent y.table (history_of ds x))) (sym answers) (law_run y number file k ds same marks bytes).pieces);
       pieces = newest;
     }
 
@@ -407,8 +407,8 @@ traced y ds rs place r newest =
 pub record Walked (t : Table) (cs : List Call) (rs : List Answer) (place k : ℕ) : Type 0 where
   pub calls : k ≤ length cs
   pub answers : k ≤ length rs
-  pub pieces : All (OfPiece t) (lent t (history_of (map deed_of cs) rs)) → All (OfPiece t) (lent t (past_of cs rs k))
-  pub same : All (OfPiece t) (lent t (history_of (map deed_of cs) rs)) → (opening : List ℕ)
+  pub pieces : AllByRecursion (OfPiece t) (lent t (history_of (map deed_of cs) rs)) → AllByRecursion (OfPiece t) (lent t (past_of cs rs k))
+  pub same : AllByRecursion (OfPiece t) (lent t (history_of (map deed_of cs) rs)) → (opening : List ℕ)
       → newest_over (standing t opening (history_of (map deed_of cs) rs)) place
       ≡ newest_over (survivors (λ n. owed n (drop k cs) (drop k rs)) (standing t opening (past_of cs rs k))) place
 
@@ -417,7 +417,7 @@ walk_none t cs rs place k b i j =
     record {
       calls = i;
       answers = j;
-      pieces = λ a. subst (λ (h : List Event). All (OfPiece t) (lent t h)) (sym (past_all cs rs k b)) a;
+      pieces = λ a. subst (λ (h : List Event). AllByRecursion (OfPiece t) (lent t h)) (sym (past_all cs rs k b)) a;
       same = λ a opening.
           ap (λ (h : List Event). newest_over (standing t opening h) place) (sym (past_all cs rs k b))
           ∙ ap (λ (ss : List Stroke). newest_over ss place) (sym (survive_all (λ n. owed n (drop k cs) (drop k rs)) (standing t opening (past_of cs rs k)) (λ n. owed_all n cs rs k b)));
@@ -438,12 +438,12 @@ module _ (t : Table) (cs : List Call) (rs : List Answer) (place j : ℕ) (w : Wa
   in_answers : j < length rs
   in_answers = omega (arith, w.answers)
 
-  pieces_here : All (OfPiece t) (lent t (history_of (map deed_of cs) rs)) → All (OfPiece t) (lent t (past_of cs rs j))
+  pieces_here : AllByRecursion (OfPiece t) (lent t (history_of (map deed_of cs) rs)) → AllByRecursion (OfPiece t) (lent t (past_of cs rs j))
   pieces_here a =
       pieces_before t (deed_of (get_or cs j no_call)) (get_or rs j no_answer) (past_of cs rs j)
-      (subst (λ (h : List Event). All (OfPiece t) (lent t h)) (past_more cs rs j no_call no_answer in_calls in_answers) (w.pieces a))
+      (subst (λ (h : List Event). AllByRecursion (OfPiece t) (lent t h)) (past_more cs rs j no_call no_answer in_calls in_answers) (w.pieces a))
 
-  here_or_before : All (OfPiece t) (lent t (history_of (map deed_of cs) rs)) → (opening : List ℕ)
+  here_or_before : AllByRecursion (OfPiece t) (lent t (history_of (map deed_of cs) rs)) → (opening : List ℕ)
       → newest_over (standing t opening (history_of (map deed_of cs) rs)) place
       ≡ or_else (painter_at t cs rs j place) (newest_over (survivors (λ n. owed n (drop j cs) (drop j rs)) (standing t opening (past_of cs rs j))) place)
   here_or_before a opening =
@@ -455,7 +455,7 @@ module _ (t : Table) (cs : List Call) (rs : List Answer) (place j : ℕ) (w : Wa
       (same_owes (λ m. owed_before m (owes m) (deed_of (get_or cs j no_call)) (get_or rs j no_answer)) (λ n. owed n (drop j cs) (drop j rs)) (standing t opening (past_of cs rs j))
       (λ m. sym (owed_more m cs rs j no_call no_answer in_calls in_answers)))
 
-  found_here : (p : Painter) → Some p ≡ painter_at t cs rs j place → All (OfPiece t) (lent t (history_of (map deed_of cs) rs))
+  found_here : (p : Painter) → Some p ≡ painter_at t cs rs j place → AllByRecursion (OfPiece t) (lent t (history_of (map deed_of cs) rs))
       → Newest t (map deed_of cs) rs place (Some p)
   found_here p e a opening =
       sym (here_or_before a opening

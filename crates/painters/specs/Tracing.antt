@@ -1,6 +1,6 @@
 -- Whose stroke lies over a byte, and how it is found without writing anything down.
 use Rattle.std.specs.Prelude.{◌≡◌, ℕ, ◌+◌, ◌-◌, Bool, false, cond, ◌&&◌, List, [], ◌∷◌, map, length, take, drop, Some, None, Option, ◌==◌, nat_le, nat_lt, slice_index_or}
-use Rattle.std.specs.List.{AllByRecursion as All}
+use Rattle.std.specs.List.{AllByRecursion}
 use Rattle.dds.specs.declared.area.Area.{Area}
 use Rattle.dds.specs.declared.piece.Piece.{Piece}
 use Rattle.dds.specs.declared.table.Table.{Table}
@@ -33,7 +33,7 @@ pub record Traced (t : Table) (ds : List Deed) (rs : List Answer) (place : ℕ) 
   pub run : (number : ℕ) (file : List ℕ) (k : Stock) → length file ≡ t.length → k.marks ≡ [] → k.bytes ≡ []
       → rs ≡ answers_to (opened_state t number file k) ds → Newest t ds rs place r
   -- and by whatever calls and answers, as long as every loan granted is of a piece that exists
-  pub pieces : All (OfPiece t) (lent t (history_of ds rs)) → Newest t ds rs place r
+  pub pieces : AllByRecursion (OfPiece t) (lent t (history_of ds rs)) → Newest t ds rs place r
 
 -- Read from the newest call to the oldest, an undo owes one stroke of its loan, which the next stroke of the loan pays; a cancel
 -- takes back all of its loan's strokes before it. A stroke stands where nothing is owed.
