@@ -7,12 +7,14 @@ demo: target/bin/pieces target/bin/retouch
 	@for file in $(SAMPLES)/*.dds; do echo "$$file"; target/bin/pieces $$file || exit 1; done
 	@target/bin/retouch $(SAMPLES)/cube-rgb.dds
 
-# rt proves a program before it links it.
-target/bin/%: crates.txt $(shell find crates -name '*.rt' -o -name '*.antt')
-	rt check $*
+# rt proves a program before it links it. Run without arguments, each program says how it is used, and nothing else.
+target/bin/%: crates.txt $(shell find crates -path '*/out' -prune -o \( -name '*.rt' -o -name '*.antt' \) -print)
+	cd crates/$* && rt run >/dev/null
+	@mkdir -p target/bin
+	cp crates/$*/out/$* $@
 
 test:
 	.ci/run
 
 fmt:
-	rt fmt
+	for crate in crates/*; do (cd $$crate && rt fmt) || exit 1; done

@@ -1,24 +1,34 @@
 // The docket: what stands for an open job.
-ghost use Rattle.std.specs.Prelude.{◌≡◌};
+ghost use Rattle.std.specs.Prelude.{◌≡◌, true, false};
 
-// A token with a job's number. Whoever opens a job must spend it by ship or scrap: a program that lets one go is not proved.
+// A token with a job's number. Whoever opens a job must spend it by ship or scrap: a program that lets one go is not proved, since no
+// docket that is handed out is spent.
 pub struct Docket {
     number: u32,
+    spent: bool,
 }
 
 impl Drop for Docket {
+    // Only where it is spent.
     fn drop(self)
-        requires { ⊥ }
+        requires { self.spent ≡ true }
     {
-        let Docket { number: _ } = self;
+        let Docket {
+            number: _,
+            spent: _,
+        } = self;
     }
 }
 
 impl Docket {
     pub(crate) fn of(number: u32) -> Docket
-        ensures { result.number ≡ number }
+        ensures number { result.number ≡ number }
+        ensures unspent { result.spent ≡ false }
     {
-        Docket { number }
+        Docket {
+            number,
+            spent: false,
+        }
     }
 
     // The number of the job that it stands for.
@@ -28,10 +38,11 @@ impl Docket {
         self.number
     }
 
-    pub(crate) fn spend(self) -> u32
+    // The only way to let one go.
+    pub(crate) fn spend(mut self) -> u32
         ensures { result ≡ self.number }
     {
-        let Docket { number } = self;
-        number
+        self.spent = true;
+        self.number()
     }
 }

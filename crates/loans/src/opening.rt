@@ -1,5 +1,5 @@
 // Opening a job, and asking where its pieces stand.
-ghost use Rattle.std.specs.Prelude.{◌≡◌, Option};
+ghost use Rattle.std.specs.Prelude.{◌≡◌, false, IfOk, Option};
 ghost use Rattle.dds.specs.Places.{WhereIs, where_in, WhoseIs, Shown};
 ghost use Rattle.loans.specs.Jobs.{book_of, fresh_book, empty_book, report_of};
 ghost use Rattle.loans.specs.Opening.{OpenedWith, OpenedWithCodes};
@@ -47,7 +47,8 @@ impl Job {
         number: u32,
         family: &F,
     ) -> Result<Docket, Refusal>
-        ensures { OpenedWith file.now number (F.row_bytes family.now) (F.rows family.now) self.old result self.new }
+        ensures opened { OpenedWith file.now number (F.row_bytes family.now) (F.rows family.now) self.old result self.new }
+        ensures unspent { IfOk result (λ docket. docket.spent ≡ false) }
     {
         match Layout::read_with(head_of(file), file.len() as u64, family) {
             Ok(layout) => {
@@ -65,7 +66,8 @@ impl Job {
         number: u32,
         codes: &T,
     ) -> Result<Docket, Refusal>
-        ensures { OpenedWithCodes file.now number (T.name_at codes.now) self.old result self.new }
+        ensures opened { OpenedWithCodes file.now number (T.name_at codes.now) self.old result self.new }
+        ensures unspent { IfOk result (λ docket. docket.spent ≡ false) }
     {
         let layout = Layout::read(head_of(file), file.len() as u64, codes)?;
         *self = Job::fresh(layout, Some(number));

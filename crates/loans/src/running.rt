@@ -1,5 +1,5 @@
 // Running a list of calls on a newly opened job.
-ghost use Rattle.std.specs.Prelude.{◌≡◌, ◌+◌, ◌≤◌, map, length, vec_len, vec_capacity};
+ghost use Rattle.std.specs.Prelude.{◌≡◌, false, IfOk, ◌+◌, ◌≤◌, map, length, vec_len, vec_capacity};
 ghost use Rattle.loans.specs.Jobs.{book_of};
 ghost use Rattle.loans.specs.Stocks.{stock_of, OursWhere};
 ghost use Rattle.loans.specs.Strokes.{state_of};
@@ -93,7 +93,8 @@ pub fn run<F: Family>(
     calls: &[Call<'_>],
     answers: &mut Vec<Answer>,
 ) -> Result<Docket, RunFault>
-    ensures { Ran (record { file = file.old; number = number; row_bytes = F.row_bytes family.now; rows = F.rows family.now; shelves = shelves.old; calls = map deed_of calls.now; old = answers.old.items }) (vec_len answers.old) (vec_capacity answers.old) job.old result job.new file.new shelves.new answers.new.items }
+    ensures ran { Ran (record { file = file.old; number = number; row_bytes = F.row_bytes family.now; rows = F.rows family.now; shelves = shelves.old; calls = map deed_of calls.now; old = answers.old.items }) (vec_len answers.old) (vec_capacity answers.old) job.old result job.new file.new shelves.new answers.new.items }
+    ensures unspent { IfOk result (λ docket. docket.spent ≡ false) }
 {
     let mut opened = Job::empty();
     let docket = match opened.open_with(file, number, family) {

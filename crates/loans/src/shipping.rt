@@ -1,4 +1,5 @@
 // Shipping a job.
+ghost use Rattle.std.specs.Prelude.{◌≡◌, IfErr};
 ghost use Rattle.loans.specs.Shipping.{Shipped};
 
 use crate::docket::Docket;
@@ -15,7 +16,8 @@ pub struct Unspent {
 // Ends a job with no loans out: empties it and answers its report. Refuses with OtherDocket, then with LoansOut, and hands the
 // docket back.
 pub fn ship(docket: Docket, job: &mut Job) -> Result<Report, Unspent>
-    ensures { Shipped docket job.old result job.new }
+    ensures shipped { Shipped docket job.old result job.new }
+    ensures same { IfErr result (λ unspent. unspent.docket ≡ docket) }
 {
     if job.ledger().number != Some(docket.number()) {
         return Err(Unspent {
