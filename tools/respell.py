@@ -20,6 +20,9 @@ GOAL = re.compile(r"goal\.(" + WORD.pattern + ")")
 COMMENT = re.compile(r"(?<![^\s(){}.;,@\"«»])--[^\n]*")
 CAMEL = re.compile(r"[a-z][a-z0-9]*(?:[A-Z][a-z0-9]*)+'*$")
 
+# A definition with the name of a tactic, which impls in src/ use.
+TACTIC = {"first_of": "first_refusal"}
+
 # Names that would fall together with another, or that name a word of std by its older name.
 OTHER = {
     "all-counted": "all_counted_lem",
@@ -80,8 +83,13 @@ def main():
             table[old] = new
         return new
 
-    def respell(text):
+    def respell(text, path):
         # strings stay as they are
+        if path.endswith(".antt"):
+            OTHER.update(TACTIC)
+        else:
+            for name in TACTIC:
+                OTHER.pop(name, None)
         out, at = [], 0
         for q in QUIET.finditer(text):
             out.append(WORD.sub(word, text[at:q.start()]))
@@ -94,7 +102,7 @@ def main():
     for path in antt + rust:
         with open(path) as f:
             old = f.read()
-        texts[path] = (old, respell(old))
+        texts[path] = (old, respell(old, path))
     words = {}
     for path, (old, _) in texts.items():
         for m in WORD.finditer(QUIET.sub(" ", old)):

@@ -9,7 +9,7 @@ use Rattle.dds.specs.Headers.{header_of, header_read}
 use Rattle.dds.specs.Shapes.{shape_of, shape_read}
 use Rattle.dds.specs.Plans.{plan_of}
 use Rattle.dds.specs.Pieces.{Placed, FitsPlan}
-use Rattle.dds.specs.Layouts.{Fits, LaidOut, Opened, Turned, refusal_of, err_of, first_of, pieces_in, TableOf}
+use Rattle.dds.specs.Layouts.{Fits, LaidOut, Opened, Turned, refusal_of, err_of, first_refusal, pieces_in, TableOf}
 use Rattle.dds.proofs.Fitting.{fits_only}
 use Rattle.dds.proofs.Shaped.{shape_is}
 
@@ -19,7 +19,7 @@ header_is head n h e = grind (arith, nat_tests)
 
 module _ (head : List ℕ) (n : ℕ) (row_bytes rows : ℕ → ℕ → ℕ) (h : Header) (shape : Shape) (e : header_read head n ≡ Ok h) (f : shape_read h ≡ Ok shape) where
   pub free : refusal_of head n ≡ None
-  free = ap first_of e ∙ ap err_of f
+  free = ap first_refusal e ∙ ap err_of f
 
   here : header_of head ≡ h
   here = sym (header_is head n h e).0

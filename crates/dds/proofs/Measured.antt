@@ -16,7 +16,7 @@ use Rattle.dds.specs.Levels.{levels_of, side_at, longest_chain}
 use Rattle.dds.specs.Shapes.{shape_of, elements_of, depth_of, limit_of, within, is_in_range, largest_side, judged, shape_read}
 use Rattle.dds.specs.Plans.{Plan, plan_of, size_at, end_of, stride_of, begin_at}
 use Rattle.dds.specs.Pieces.{Placed, FitsPlan, Exists, pieces_of}
-use Rattle.dds.specs.Layouts.{Fits, Opened, OpenedAs, OpenedIn, OpenedBy, Turned, refusal_of, first_of, err_of, pieces_in}
+use Rattle.dds.specs.Layouts.{Fits, Opened, OpenedAs, OpenedIn, OpenedBy, Turned, refusal_of, first_refusal, err_of, pieces_in}
 use Rattle.dds.specs.Places.{Stands}
 use Rattle.dds.specs.Figures.{Says, AcceptedWith, Whose, Figures, level_of}
 use Rattle.dds.proofs.Fitting.{pieces_fit, fits_only}
@@ -140,7 +140,7 @@ whose_past layout place past (Err x) o = ap Err o.0
 whose_past layout place past (Ok po) o = let below = o.0 in absurd (omega arith)
 
 refused : (head : List ℕ) (n : ℕ) (h : Header) (x : Refusal) → header_read head n ≡ Ok h → shape_read h ≡ Err x → refusal_of head n ≡ Some x
-refused head n h x e f = ap first_of e ∙ ap err_of f
+refused head n h x e f = ap first_refusal e ∙ ap err_of f
 
 too_wide : (h : Header) (shape : Shape) → shape_of h ≡ Some shape → h.width ≡ 16385 → shape_read h ≡ Err OutOfRange
 too_wide h shape has w =

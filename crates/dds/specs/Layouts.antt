@@ -52,14 +52,14 @@ abbrev pub err_of : Result Shape Refusal → Option Refusal
 err_of (Err e) = Some e
 err_of (Ok s) = None
 
-abbrev pub first_of : Result Header Refusal → Option Refusal
-first_of (Err e) = Some e
-first_of (Ok h) = err_of (shape_read h)
+abbrev pub first_refusal : Result Header Refusal → Option Refusal
+first_refusal (Err e) = Some e
+first_refusal (Ok h) = err_of (shape_read h)
 
 -- the first refusal that applies to a file's head and length before its pieces are looked at: length, first bytes, sizes of
 -- the header, extended header, shape, range, levels
 abbrev pub refusal_of : List ℕ → ℕ → Option Refusal
-refusal_of head n = first_of (header_read head n)
+refusal_of head n = first_refusal (header_read head n)
 
 -- an accepted file: nothing refuses it, the layout's pieces fit, and no other list does
 pub record Accepted (head : List ℕ) (n : ℕ) (row_bytes rows : ℕ → ℕ → ℕ) (layout : Layout) : Type 0 where

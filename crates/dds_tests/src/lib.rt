@@ -1,6 +1,6 @@
+// Tests of the crate dds. They stand in a crate of their own, so that dds is not proved a second time with them.
 #![tactic(auto)]
 
-// Tests of the crate dds. They stand in a crate of their own, so that dds is not proved a second time with them.
 #[cfg(test)]
 mod expected;
 #[cfg(test)]

@@ -85,7 +85,7 @@ impl Family for Block {
 
     ghost rows = { λ family. rows_of (BlockName family.bytes) };
 
-    ghost bounded = { first_of (Prim.search rules, Prim.grind (arith, Self.row.coded.inj)) };
+    ghost bounded = { Prim.search rules };
 
     fn ask(&self, width: u32, height: u32) -> Extent {
         if !is_side(width) || !is_side(height) {

@@ -1,6 +1,6 @@
+// Tests of the crate loans. They stand in a crate of their own, so that loans is not proved a second time with them.
 #![tactic(auto)]
 
-// Tests of the crate loans. They stand in a crate of their own, so that loans is not proved a second time with them.
 #[cfg(test)]
 mod altered;
 #[cfg(test)]

@@ -6,6 +6,7 @@ use formats::BuiltInCodes;
 use refusal::Refusal;
 use std::fs::File;
 use std::io::Read;
+use std::process::ExitCode;
 use std::{env, io};
 
 const USAGE: &str = "usage: pieces FILE            facts of a DDS file, and a table of its pieces
@@ -88,27 +89,22 @@ fn run(rt: &HostRuntime, path: &str, places: &[String]) -> Result<(), Fault> {
     Ok(())
 }
 
-fn main(rt: HostRuntime) -> io::Result<()> {
+// What fails is told once, here; the status says that it did.
+fn main(rt: HostRuntime) -> io::Result<ExitCode> {
     let args: Vec<String> = env::args(&rt)?.skip(1).collect(rt.alloc())?;
     let Some(path) = args.first() else {
-        return println!(rt; "{USAGE}");
+        println!(rt; "{USAGE}")?;
+        return Ok(ExitCode::SUCCESS);
     };
     if path.as_str() == "--help" {
-        return println!(rt; "{USAGE}");
+        println!(rt; "{USAGE}")?;
+        return Ok(ExitCode::SUCCESS);
     }
     match run(&rt, path.as_str(), &args[1..]) {
-        Ok(()) => Ok(()),
-        Err(Fault::Unreadable(error)) => {
-            eprintln!(rt; "pieces: {path}: {error}")?;
-            Err(error)
-        }
-        Err(Fault::Refused(refusal)) => {
-            eprintln!(rt; "pieces: {path}: {refusal}")?;
-            Err(io::Error::from(io::ErrorKind::InvalidData))
-        }
-        Err(Fault::NoPlace) => {
-            eprintln!(rt; "pieces: a place is a number from 0 on")?;
-            Err(io::Error::from(io::ErrorKind::InvalidInput))
-        }
+        Ok(()) => return Ok(ExitCode::SUCCESS),
+        Err(Fault::Unreadable(error)) => eprintln!(rt; "pieces: {path}: {error}")?,
+        Err(Fault::Refused(refusal)) => eprintln!(rt; "pieces: {path}: {refusal}")?,
+        Err(Fault::NoPlace) => eprintln!(rt; "pieces: a place is a number from 0 on")?,
     }
+    Ok(ExitCode::FAILURE)
 }

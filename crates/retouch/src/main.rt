@@ -13,6 +13,7 @@ use refusal::Refusal;
 use shelf::Shelf;
 use std::fs::File;
 use std::io::Write;
+use std::process::ExitCode;
 use std::{env, fs, io};
 
 const USAGE: &str =
@@ -151,28 +152,26 @@ fn run(rt: &HostRuntime, path: &str, out: Option<&String>) -> Result<(), Fault> 
     }
 }
 
-fn main(rt: HostRuntime) -> io::Result<()> {
+// What fails is told once; the status says that it did.
+fn main(rt: HostRuntime) -> io::Result<ExitCode> {
     let args: Vec<String> = env::args(&rt)?.skip(1).collect(rt.alloc())?;
     let Some(path) = args.first() else {
-        return println!(rt; "{USAGE}");
+        println!(rt; "{USAGE}")?;
+        return Ok(ExitCode::SUCCESS);
     };
     if path.as_str() == "--help" {
-        return println!(rt; "{USAGE}");
+        println!(rt; "{USAGE}")?;
+        return Ok(ExitCode::SUCCESS);
     }
     if args.len() > 2 {
         eprintln!(rt; "{USAGE}")?;
-        return Err(io::Error::from(io::ErrorKind::InvalidInput));
+        return Ok(ExitCode::FAILURE);
     }
     match run(&rt, path.as_str(), args.get(1)) {
-        Ok(()) => Ok(()),
-        Err(Fault::Unreadable(error)) => {
-            eprintln!(rt; "retouch: {path}: {error}")?;
-            Err(error)
-        }
-        Err(Fault::Refused(refusal)) => {
-            eprintln!(rt; "retouch: {path}: {refusal}")?;
-            Err(io::Error::from(io::ErrorKind::InvalidData))
-        }
-        Err(Fault::Told(error)) => Err(error),
+        Ok(()) => return Ok(ExitCode::SUCCESS),
+        Err(Fault::Unreadable(error)) => eprintln!(rt; "retouch: {path}: {error}")?,
+        Err(Fault::Refused(refusal)) => eprintln!(rt; "retouch: {path}: {refusal}")?,
+        Err(Fault::Told(_)) => {}
     }
+    Ok(ExitCode::FAILURE)
 }
