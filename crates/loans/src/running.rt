@@ -22,10 +22,10 @@ pub enum RunFault {
 }
 
 // The answer of a call.
-fn answer_of(res: Result<u32, Refusal>) -> Answer
-    ensures { result ≡ answer_with res }
+fn answer_of(outcome: Result<u32, Refusal>) -> Answer
+    ensures { result ≡ answer_with outcome }
 {
-    match res {
+    match outcome {
         Ok(number) => Answer::Done(number),
         Err(refusal) => Answer::Refused(refusal),
     }

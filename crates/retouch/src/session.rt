@@ -92,10 +92,10 @@ pub(crate) fn carry_out(
     }
 }
 
-pub(crate) fn answer_of(res: Result<u32, Refusal>) -> Answer
-    ensures { result ≡ answer_with res }
+pub(crate) fn answer_of(outcome: Result<u32, Refusal>) -> Answer
+    ensures { result ≡ answer_with outcome }
 {
-    match res {
+    match outcome {
         Ok(number) => Answer::Done(number),
         Err(refusal) => Answer::Refused(refusal),
     }
