@@ -3,10 +3,9 @@
 
 usage: python3 tools/respell.py [--check]      at the top of the repository, once, after the kit's port.py
 
-What turns, in specs/ and proofs/ and in the clauses and ghost items of src/ (whole words, strings and comments left alone but for words
-of the table): a word in lower camel case, as 'factsRead' to 'facts_read'; a name with dashes that this repository defines, as 'touching-append' to
-'touching_append', or 'Chain-of' to 'ChainOf' where it is a type. Goals, which Rattle names, keep their dashes. OTHER has the names that would
-have fallen together with another. A second run changes nothing. --check writes nothing and prints the table.
+Whole words turn, in specs/, proofs/ and src/, but not in strings: a word in lower camel case, as 'factsRead' to 'facts_read' (code has
+none); a name with dashes that this repository defines, as 'touching-append' to 'touching_append', or 'Chain-of' to 'ChainOf' where it
+is a type. Goals, which Rattle names, keep their dashes. A second run changes nothing. --check writes nothing and prints the table.
 """
 import glob
 import re
@@ -20,7 +19,7 @@ GOAL = re.compile(r"goal\.(" + WORD.pattern + ")")
 COMMENT = re.compile(r"(?<![^\s(){}.;,@\"«»])--[^\n]*")
 CAMEL = re.compile(r"[a-z][a-z0-9]*(?:[A-Z][a-z0-9]*)+'*$")
 
-# A definition with the name of a tactic, which impls in src/ use.
+# A definition with the name of a tactic. In src/ that word is the tactic.
 TACTIC = {"first_of": "first_refusal"}
 
 # Names that would fall together with another, or that name a word of std by its older name.
@@ -48,15 +47,15 @@ def camel(name):
     return "".join(part[:1].upper() + part[1:] for part in name.split("-"))
 
 
-def turned(name, defined):
+def turned(name, defined, other):
     bare = name.rstrip("':")
-    primes = name[len(bare):]
-    if bare in OTHER:
-        return OTHER[bare] + primes
+    rest = name[len(bare):]
+    if bare in other:
+        return other[bare] + rest
     if CAMEL.match(bare):
-        return snake(bare) + primes
+        return snake(bare) + rest
     if "-" in bare and bare in defined:
-        return (camel(bare) if bare[:1].isupper() else snake(bare)) + primes
+        return (camel(bare) if bare[:1].isupper() else snake(bare)) + rest
     return name
 
 
@@ -76,20 +75,15 @@ def main():
     defined -= goals
     table, fallen = {}, []
 
-    def word(m):
-        old = m.group(0)
-        new = turned(old, defined)
-        if new != old:
-            table[old] = new
-        return new
+    def respell(text, other):
+        def word(m):
+            old = m.group(0)
+            new = turned(old, defined, other)
+            if new != old:
+                table[old] = new
+            return new
 
-    def respell(text, path):
         # strings stay as they are
-        if path.endswith(".antt"):
-            OTHER.update(TACTIC)
-        else:
-            for name in TACTIC:
-                OTHER.pop(name, None)
         out, at = [], 0
         for q in QUIET.finditer(text):
             out.append(WORD.sub(word, text[at:q.start()]))
@@ -102,7 +96,7 @@ def main():
     for path in antt + rust:
         with open(path) as f:
             old = f.read()
-        texts[path] = (old, respell(old, path))
+        texts[path] = (old, respell(old, OTHER | TACTIC if path.endswith(".antt") else OTHER))
     words = {}
     for path, (old, _) in texts.items():
         for m in WORD.finditer(QUIET.sub(" ", old)):
