@@ -22,7 +22,8 @@ pub struct CodeRow {
     pub name: FormatName,
 }
 
-// A line of a table: it gives a range of codes a format.
+// A line of a table: it gives a range of codes a format. `Into<CodeRange>` would not do: its ghost member is a relation, and what a
+// whole table means is a function of its lines.
 pub trait Line {
     ghost means: { Self → CodeRange };
 
