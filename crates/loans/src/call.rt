@@ -3,11 +3,7 @@ use dds::Piece;
 use refusal::Refusal;
 
 // What a call answers: its number where it was carried out, or why it was turned down.
-#[derive(Clone, Copy, PartialEq, Eq, Debug)]
-pub enum Answer {
-    Done(u32),
-    Refused(Refusal),
-}
+pub type Answer = Result<u32, Refusal>;
 
 // What a paint names: the loan and who paints, the row of the loan's piece and the row's byte where the stroke begins, and
 // the bytes to lay.

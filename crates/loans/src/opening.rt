@@ -13,7 +13,7 @@ use refusal::Refusal;
 
 impl Job {
     // A job with no loans over a layout.
-    fn fresh(layout: Layout, number: Option<u32>) -> Job
+    pub(crate) fn fresh(layout: Layout, number: Option<u32>) -> Job
         ensures layout { result.layout ≡ layout }
         ensures book { book_of result ≡ fresh_book layout.table number }
     {
