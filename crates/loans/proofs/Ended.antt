@@ -6,7 +6,7 @@ use Rattle.shelf.proofs.Runs.{slid_front}
 use Rattle.loans.specs.declared.ledger.Ledger.{Ledger}
 use Rattle.loans.specs.declared.ledger.Loan.{Loan}
 use Rattle.loans.specs.declared.mark.Mark.{Mark}
-use Rattle.loans.specs.Lists.{some_of, less_all}
+use Rattle.loans.specs.Lists.{less_all}
 use Rattle.loans.specs.Books.{Balanced, Inside, Given, Rising, outs, no_loan}
 use Rattle.loans.specs.Stocks.{is_number, of_loan, marks_of, all_counted}
 use Rattle.loans.specs.Strokes.{counted_loan}
@@ -15,6 +15,7 @@ use Rattle.loans.specs.Tallies.{Distinct}
 use Rattle.loans.specs.Writing.{ledger_ended}
 use Rattle.loans.proofs.Recounting.{Ready, other_number}
 use Rattle.loans.proofs.Searches.{less_at}
+use Rattle.loans.proofs.Slots.{none_has}
 use Rattle.loans.proofs.Sifted.{length_slid}
 
 -- the marks of other loans stay
@@ -43,12 +44,6 @@ recount_less (l ∷ ls) n ms h = go (eqb n l.number) refl (recount_less ls n ms 
         let strokes : marks_of l.number (less_all (of_loan n) ms) ≡ l.strokes =
         others_stay n l.number ms other ∙ sym (eqb-true l.strokes (marks_of l.number ms) (and_parts (eqb l.strokes (marks_of l.number ms)) (all_counted ls ms) h).0) in
         λ i. record { number = l.number; borrower = l.borrower; piece = l.piece; area = l.area; strokes = strokes i } ∷ r i
-
--- none of the loans has the number, where none at any position has
-pub none_has : (ls : List Loan) (n : ℕ) → ((j : ℕ) → j < length ls → (get_or ls j no_loan).number ≢ n) → some_of (is_number n) ls ≡ false
-none_has [] n h = refl
-none_has (l ∷ ls) n h =
-    cond-false (is_number n l) _ _ (ne_eqb n l.number (λ e. h 0 (omega arith) (sym e))) ∙ none_has ls n (λ j f. h (suc j) (omega arith))
 
 -- the loans without the one at a position
 pub less_here : (ls : List Loan) (n k : ℕ) → Distinct ls → StandsAt ls n k → less_all (is_number n) ls ≡ take k ls ++ drop (k + 1) ls

@@ -60,10 +60,8 @@ fn restore(file: &mut [u8], marks: &[Mark], covered: &[u8], loan: u32)
     requires inside { InFile (length file.old) marks.now }
     ensures { file.new ≡ restored loan file.old marks.now covered.now }
 {
-    let mut position = marks.len();
     let mut end = covered.len();
-    while position > 0 {
-        position -= 1;
+    for position in (0..marks.len()).rev() {
         let mark = marks[position];
         let begin = end - mark.length;
         if mark.loan == loan {
@@ -115,9 +113,7 @@ impl Job {
         requires { OursWhere known (book_of self.old) (stock_of shelves.old) }
         ensures { CalledOnAny (keep loan) self.old shelves.old result self.new shelves.new }
     {
-        let Some(position) = self.position_of(loan) else {
-            return Err(Refusal::LoanNotOut);
-        };
+        let position = self.position_of(loan).ok_or(Refusal::LoanNotOut)?;
         if !self.owns_or_knows(shelves, known) {
             return Err(Refusal::ForeignShelves);
         }
@@ -140,9 +136,7 @@ impl Job {
         if !self.has_length(file) {
             return Err(Refusal::OtherLength);
         }
-        let Some(position) = self.position_of(loan) else {
-            return Err(Refusal::LoanNotOut);
-        };
+        let position = self.position_of(loan).ok_or(Refusal::LoanNotOut)?;
         if !self.owns_or_knows(shelves, known) {
             return Err(Refusal::ForeignShelves);
         }

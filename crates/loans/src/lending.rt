@@ -1,6 +1,6 @@
 // Lending a piece.
 ghost use Rattle.std.specs.Prelude.{◌≡◌, ◌<◌};
-ghost use Rattle.loans.specs.Lending.{same_piece, piece_is_out, ledger_with, Lent};
+ghost use Rattle.loans.specs.Lending.{piece_is_out, ledger_with, Lent};
 ghost use Rattle.loans.specs.Books.{Balanced, outs};
 
 use crate::job::Job;
@@ -13,22 +13,11 @@ const MOST_OUT: u32 = 32;
 
 const MOST_GRANTED: u32 = 65535;
 
-fn is_same(a: Piece, b: Piece) -> bool
-    ensures { result ≡ same_piece a b }
-{
-    a.element == b.element && a.level == b.level && a.slice == b.slice
-}
-
 // One of the loans has the piece.
 fn is_out(loans: &[Loan], piece: Piece) -> bool
     ensures { result ≡ piece_is_out loans.now piece }
 {
-    for loan in loans {
-        if is_same(loan.piece, piece) {
-            return true;
-        }
-    }
-    false
+    loans.iter().any(|loan| loan.piece == piece)
 }
 
 impl Ledger {

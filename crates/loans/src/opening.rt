@@ -13,7 +13,7 @@ use refusal::Refusal;
 
 impl Job {
     // A job with no loans over a layout.
-    fn fresh(layout: Layout, number: Option<u32>) -> Job
+    pub(crate) fn fresh(layout: Layout, number: Option<u32>) -> Job
         ensures layout { result.layout ≡ layout }
         ensures book { book_of result ≡ fresh_book layout.table number }
     {
@@ -21,7 +21,7 @@ impl Job {
             layout,
             Ledger {
                 number,
-                loans: [Loan::NONE; 32],
+                loans: [Loan::default(); 32],
                 out: 0,
                 granted: 0,
                 kept: 0,
@@ -50,13 +50,9 @@ impl Job {
         ensures opened { OpenedWith file.now number (F.row_bytes family.now) (F.rows family.now) self.old result self.new }
         ensures unspent { IfOk result (λ docket. docket.spent ≡ false) }
     {
-        match Layout::read_with(head_of(file), file.len() as u64, family) {
-            Ok(layout) => {
-                *self = Job::fresh(layout, Some(number));
-                Ok(Docket::of(number))
-            }
-            Err(refusal) => Err(refusal),
-        }
+        let layout = Layout::read_with(head_of(file), file.len() as u64, family)?;
+        *self = Job::fresh(layout, Some(number));
+        Ok(Docket::of(number))
     }
 
     // Opens a file by the format that its header names, with a table of the codes other than DX10.

@@ -119,9 +119,7 @@ impl Job {
         if !self.has_length(file) {
             return Err(Refusal::OtherLength);
         }
-        let Some(position) = self.position_of(loan) else {
-            return Err(Refusal::LoanNotOut);
-        };
+        let position = self.position_of(loan).ok_or(Refusal::LoanNotOut)?;
         if self.loan_at(position).borrower != borrower {
             return Err(Refusal::OtherBorrower);
         }

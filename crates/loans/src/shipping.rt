@@ -8,6 +8,7 @@ use crate::ledger::Report;
 use refusal::Refusal;
 
 // A docket that could not be spent comes back with the refusal.
+#[derive(PartialEq, Eq, Debug)]
 pub struct Unspent {
     pub docket: Docket,
     pub refusal: Refusal,

@@ -42,10 +42,7 @@ fn tally(loans: &[Loan], marks: &[Mark], covered: usize) -> Option<[u32; 32]>
     let mut left = covered;
     for mark in marks {
         let position = sound_position(loans, *mark)?;
-        if mark.length > left {
-            return None;
-        }
-        left -= mark.length;
+        left = left.checked_sub(mark.length)?;
         counts[position] += 1;
     }
     if left > 0 {
@@ -59,12 +56,10 @@ fn do_agree(loans: &[Loan], counts: &[u32]) -> bool
     requires { length loans.now ≤ length counts.now }
     ensures { result ≡ agree loans.now counts.now }
 {
-    for (position, loan) in loans.iter().enumerate() {
-        if loan.strokes != counts[position] {
-            return false;
-        }
-    }
-    true
+    loans
+        .iter()
+        .zip(counts)
+        .all(|(loan, count)| loan.strokes == *count)
 }
 
 impl Job {

@@ -1,9 +1,11 @@
-use Rattle.std.proofs.Common.{◌≡◌, ℕ, List, length, sym, ap, ◌∙◌, ap₂, subst₂}
+use Rattle.std.proofs.Common.{◌≡◌, ℕ, List, length, sym, ap, ◌∙◌, subst, ap₂, subst₂}
 use Rattle.std.proofs.lemmas.Bool.{eqb-true}
 use Rattle.loans.specs.declared.ledger.Ledger.{Ledger}
 use Rattle.loans.specs.declared.mark.Mark.{Mark}
 use Rattle.loans.specs.Stocks.{stock_of, lengths}
 use Rattle.loans.specs.Jobs.{book_of}
+use Rattle.loans.specs.Books.{outs}
+use Rattle.loans.specs.Finding.{Found}
 use Rattle.loans.specs.Ending.{InFile, restored}
 use Rattle.loans.proofs.Allowed.{ours}
 use Rattle.loans.proofs.Undone.{marks_in_file}
@@ -24,7 +26,7 @@ restore-requires c =
 pub returns : goal.returns
 returns c =
     cancel_carried {s = c.args.self.now} {t = c.end_loan.new.self} {v = c.args.shelves.now} {f = c.args.file.now} (record {
-      loan = c.in-Some.ensures;
+      loan = subst (Found (outs c.args.self.now.ledger) c.args.loan) c.in_ok-position.ensures.ok_part c.position_of.ensures;
       ours = sym c.if-not-owns_or_knows.ensures;
       shelves = c.drop_loan.ensures;
       layout = c.end_loan.ensures.layout;
