@@ -326,9 +326,13 @@ def hand_row(call, answer):
     return row_text(call, False, answer.split()[1])
 
 
+def report_text(granted, kept, cancelled, out):
+    return f'Report {{ granted: {granted}, kept: {kept}, cancelled: {cancelled}, out: {out} }}'
+
+
 def state_text(texture, file, marks, kept, report):
     return (f'State {{ pieces: {parts(texture.cut(file))}, marks: {marks_text(marks)}, kept: {text(kept)}, '
-            f"report: ({', '.join(map(str, report))}) }}")
+            f'report: {report_text(*report)} }}')
 
 
 def painters_text(runs):
@@ -384,6 +388,7 @@ use crate::scripts::State;
 use crate::scripts::Stock;
 use crate::scripts::Trial;
 use formats::FormatName;
+use loans::Report;
 """,
     *map(head_text, TEXTURES), *map(script_text, SCRIPTS), script_text(BASE, 'BASE_LINES'),
     table_text("The parts of BASE by themselves, since a function that names a constant is checked with all of it.", 'BASE_LINES', "Row<'static>",

@@ -1,10 +1,10 @@
 // What calls work on: files, shelves, jobs; and how they stand at one time.
-use crate::scripts::{State, Stock};
-use formats::BuiltInCodes;
-use loans::{Docket, Job, Mark, Shelves, scrap};
+use crate::scripts::{Line, Row, State, Stock};
+use formats::{BuiltInCodes, Format};
+use loans::{Answer, Call, Docket, Job, Mark, Report, RunFault, Shelves, run, scrap};
 use refusal::Refusal;
 use shelf::Shelf;
-use std::alloc::Global;
+use std::alloc::{AllocGlobal, Global};
 use std::process::Abort;
 use std::test::Fail;
 
@@ -14,18 +14,12 @@ pub(crate) const NO_MARK: Mark = Mark {
     length: 0,
 };
 
-fn extend(file: &mut Vec<u8>, parts: &[&[u8]]) -> Result<(), Fail> {
-    for part in parts {
-        file.extend_from_slice(part)?;
-    }
-    Ok(())
-}
-
 // A file from the parts of its head and from its pieces.
 pub(crate) fn file_of(heap: Global, head: &[&[u8]], pieces: &[&[u8]]) -> Result<Vec<u8>, Fail> {
     let mut file = Vec::new(heap);
-    extend(&mut file, head)?;
-    extend(&mut file, pieces)?;
+    for part in head.iter().chain(pieces) {
+        file.extend_from_slice(part)?;
+    }
     Ok(file)
 }
 
@@ -37,22 +31,15 @@ pub(crate) fn spend(docket: Docket, job: &mut Job) {
 
 // A docket of a number: another job of that file is opened for it.
 pub(crate) fn docket_of(file: &[u8], number: u32) -> Result<Docket, Fail> {
-    match Job::empty().open(file, number, &BuiltInCodes) {
-        Ok(docket) => Ok(docket),
-        Err(_) => Err(Fail::new("the file is refused")),
-    }
+    Ok(Job::empty().open(file, number, &BuiltInCodes)?)
 }
 
 // A newly opened job of number 1. Its docket is spent on another job, so that a test can stop at any check.
 pub(crate) fn opened(file: &[u8]) -> Result<Job, Fail> {
     let mut job = Job::empty();
-    match job.open(file, 1, &BuiltInCodes) {
-        Ok(docket) => {
-            spend(docket, &mut Job::empty());
-            Ok(job)
-        }
-        Err(_) => Err(Fail::new("the file is refused")),
-    }
+    let docket = job.open(file, 1, &BuiltInCodes)?;
+    spend(docket, &mut Job::empty());
+    Ok(job)
 }
 
 fn put_marks(shelf: &mut Shelf<'_, Mark>, marks: &[(u32, usize, usize)]) -> Result<(), Fail> {
@@ -80,38 +67,15 @@ pub(crate) fn shelves_with<'a>(
 }
 
 // The file, both shelves and the report at one time.
-#[derive(Drop)]
+#[derive(PartialEq, Debug, Drop)]
 pub(crate) struct Snapshot {
     file: Vec<u8>,
     marks: Vec<(u32, usize, usize)>,
     kept: Vec<u8>,
-    report: (u32, u32, u32, u32),
-}
-
-fn tuples_of(heap: Global, marks: &[Mark]) -> Result<Vec<(u32, usize, usize)>, Fail> {
-    let mut tuples = Vec::new(heap);
-    for mark in marks {
-        tuples.push((mark.loan, mark.place, mark.length))?;
-    }
-    Ok(tuples)
+    report: Report,
 }
 
 impl Snapshot {
-    pub(crate) fn of(
-        heap: Global,
-        job: &Job,
-        file: &[u8],
-        shelves: &Shelves<'_>,
-    ) -> Result<Snapshot, Fail> {
-        let report = job.report();
-        Ok(Snapshot {
-            file: file.to_vec(heap)?,
-            marks: tuples_of(heap, shelves.marks().elements())?,
-            kept: shelves.bytes().elements().to_vec(heap)?,
-            report: (report.granted, report.kept, report.cancelled, report.out),
-        })
-    }
-
     // How all stands by an expected state of a file.
     pub(crate) fn told(heap: Global, head: &[&[u8]], state: &State<'_>) -> Result<Snapshot, Fail> {
         Ok(Snapshot {
@@ -121,17 +85,97 @@ impl Snapshot {
             report: state.report,
         })
     }
+}
 
-    pub(crate) fn check_same(&self, rt: &impl Abort, other: &Snapshot) {
-        assert!(rt; self.file.as_slice() == other.file.as_slice(), "the file");
-        assert!(rt;
-            self.marks.as_slice() == other.marks.as_slice(),
-            "the marks"
-        );
-        assert!(rt;
-            self.kept.as_slice() == other.kept.as_slice(),
-            "the kept bytes"
-        );
-        assert_eq!(rt; self.report, other.report, "the report");
+// A job with its file and two shelves.
+#[derive(Drop)]
+pub(crate) struct Desk<'a> {
+    pub(crate) job: Job,
+    pub(crate) file: Vec<u8>,
+    pub(crate) shelves: Shelves<'a>,
+}
+
+impl Desk<'_> {
+    // How all stands now.
+    pub(crate) fn snapshot(&self, heap: Global) -> Result<Snapshot, Fail> {
+        let marks = self.shelves.marks().elements().iter();
+        Ok(Snapshot {
+            file: self.file.clone()?,
+            marks: marks
+                .map(|mark| (mark.loan, mark.place, mark.length))
+                .collect(heap)?,
+            kept: self.shelves.bytes().elements().to_vec(heap)?,
+            report: self.job.report(),
+        })
+    }
+
+    // All stands as it must.
+    pub(crate) fn check_state(
+        &self,
+        rt: &(impl Abort + AllocGlobal),
+        head: &[&[u8]],
+        state: &State<'_>,
+    ) -> Result<(), Fail> {
+        let expected = Snapshot::told(rt.alloc(), head, state)?;
+        assert_eq!(rt; self.snapshot(rt.alloc())?, expected);
+        Ok(())
+    }
+
+    // Opens the job with number 1, and makes the calls.
+    pub(crate) fn run(
+        &mut self,
+        format: &Format,
+        calls: &[Call<'_>],
+        answers: &mut Vec<Answer>,
+    ) -> Result<Docket, RunFault> {
+        run(
+            &mut self.job,
+            &mut self.file,
+            &mut self.shelves,
+            1,
+            format,
+            calls,
+            answers,
+        )
+    }
+
+    // Scraps the job.
+    pub(crate) fn scrap(&mut self, docket: Docket) -> Result<Report, Refusal> {
+        scrap(docket, &mut self.job, &mut self.file, &mut self.shelves)
+    }
+
+    // Makes the call of a line.
+    pub(crate) fn answer_to(&mut self, line: Line<'_>) -> Result<u32, u32> {
+        self.job
+            .carry_out(&mut self.file, &mut self.shelves, line.into())
+            .map_err(Refusal::number)
+    }
+
+    // The call is answered as it must be, and where it is refused it changes nothing.
+    fn check_row(
+        &mut self,
+        rt: &(impl Abort + AllocGlobal),
+        position: usize,
+        row: Row<'_>,
+    ) -> Result<(), Fail> {
+        let (line, expected) = row;
+        let before = self.snapshot(rt.alloc())?;
+        let answer = self.answer_to(line);
+        assert_eq!(rt; answer, expected, "the call at {position}");
+        if answer.is_err() {
+            assert_eq!(rt; self.snapshot(rt.alloc())?, before);
+        }
+        Ok(())
+    }
+
+    pub(crate) fn check_rows(
+        &mut self,
+        rt: &(impl Abort + AllocGlobal),
+        rows: &[Row<'_>],
+    ) -> Result<(), Fail> {
+        for (position, row) in rows.iter().enumerate() {
+            self.check_row(rt, position, *row)?;
+        }
+        Ok(())
     }
 }

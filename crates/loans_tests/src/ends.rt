@@ -1,16 +1,16 @@
 // Opening, shipping and scrapping, and the answers of an empty job.
 use crate::altered::base_job;
-use crate::desk::{NO_MARK, Snapshot, docket_of, file_of, opened, shelves_with, spend};
+use crate::desk::{Desk, NO_MARK, docket_of, file_of, opened, shelves_with, spend};
 use crate::expected::{
     ARRAY_HEAD, BASE_SCRAPPED, BASE_STOCK, FOREIGN, PASSING_SCRAPS, TINY_HEAD, TINY_PIECES,
 };
-use crate::scripts::{Line, Row, Stock, check_rows};
+use crate::scripts::{Line, Row, State, Stock};
 use dds::Piece;
 use formats::{BuiltInCodes, Format, FormatName};
 use loans::{Answer, Call, Docket, Job, Report, RunFault, Shelves, Unspent, run, scrap, ship};
 use refusal::Refusal;
 use shelf::Shelf;
-use std::alloc::Global;
+use std::alloc::AllocGlobal;
 use std::process::Abort;
 use std::test::Fail;
 
@@ -30,10 +30,7 @@ const ZEROS: Report = Report {
 const NOTHING: Stock<'static> = (&[], &[]);
 
 fn number_of<T: Drop>(answer: Result<T, Refusal>) -> u32 {
-    match answer {
-        Ok(_) => 0,
-        Err(refusal) => refusal.number(),
-    }
+    answer.err().map_or(0, Refusal::number)
 }
 
 // The report, or the refusal's number and that of the docket that came back.
@@ -96,95 +93,81 @@ fn ship_with_number_0(rt: HostRuntime) -> Result<(), Fail> {
     let file = file_of(rt.alloc(), TINY_HEAD, TINY_PIECES)?;
     let mut job = Job::empty();
     assert_eq!(rt; shipped(docket_of(&file, 0)?, &mut job), Err((22, 0)));
-    let Ok(docket) = job.open(&file, 0, &BuiltInCodes) else {
-        return Err(Fail::new("the file is refused"));
-    };
+    let docket = job.open(&file, 0, &BuiltInCodes)?;
     assert_eq!(rt; shipped(docket, &mut job), Ok(ZEROS));
     Ok(())
 }
 
 // A scrap by a docket is refused, and changes nothing.
 fn check_unscrapped(
-    rt: &impl Abort,
-    heap: Global,
+    rt: &(impl Abort + AllocGlobal),
     docket: Docket,
-    job: &mut Job,
-    file: &mut [u8],
-    shelves: &mut Shelves<'_>,
+    desk: &mut Desk<'_>,
     refusal: u32,
 ) -> Result<(), Fail> {
-    let before = Snapshot::of(heap, job, file, shelves);
-    let answer = scrap(docket, job, file, shelves);
-    before?.check_same(rt, &Snapshot::of(heap, job, file, shelves)?);
+    let before = desk.snapshot(rt.alloc());
+    let answer = desk.scrap(docket);
+    let before = before?;
+    assert_eq!(rt; desk.snapshot(rt.alloc())?, before);
     assert_eq!(rt; number_of(answer), refusal);
     Ok(())
 }
 
 // A scrap of the job after BASE by a docket of a number, with a file cut to a length, and with that on the shelves.
 fn check_refused_scrap(
-    rt: &impl Abort,
-    heap: Global,
+    rt: &(impl Abort + AllocGlobal),
     number: u32,
     length: usize,
     stock: Stock<'_>,
     refusal: u32,
 ) -> Result<(), Fail> {
-    let (mut job, mut file) = base_job(rt, heap)?;
+    let (job, mut file) = base_job(rt)?;
     let mut marks = [NO_MARK; 5];
     let mut bytes = [0u8; 20];
-    let mut shelves = shelves_with(&mut marks, &mut bytes, stock)?;
+    let shelves = shelves_with(&mut marks, &mut bytes, stock)?;
     let docket = docket_of(&file, number)?;
     file.truncate(length);
-    check_unscrapped(rt, heap, docket, &mut job, &mut file, &mut shelves, refusal)
+    let mut desk = Desk { job, file, shelves };
+    check_unscrapped(rt, docket, &mut desk, refusal)
 }
 
 #[test]
 fn refused_scraps(rt: HostRuntime) -> Result<(), Fail> {
-    check_refused_scrap(&rt, rt.alloc(), 2, 327, NOTHING, 22)?;
-    check_refused_scrap(&rt, rt.alloc(), 1, 327, NOTHING, 12)?;
+    check_refused_scrap(&rt, 2, 327, NOTHING, 22)?;
+    check_refused_scrap(&rt, 1, 327, NOTHING, 12)?;
     for stock in FOREIGN {
-        check_refused_scrap(&rt, rt.alloc(), 1, 328, *stock, 18)?;
+        check_refused_scrap(&rt, 1, 328, *stock, 18)?;
     }
     Ok(())
 }
 
 // What a scrap of the job after BASE leaves: the pieces, empty shelves, and an empty job.
-fn check_after_scrap(
-    rt: &impl Abort,
-    heap: Global,
-    pieces: &[&[u8]],
-    job: &Job,
-    file: &[u8],
-    shelves: &Shelves<'_>,
-) -> Result<(), Fail> {
-    let expected = file_of(heap, ARRAY_HEAD, pieces)?;
-    assert!(rt; file == expected.as_slice());
-    assert_eq!(rt; (shelves.marks().count(), shelves.bytes().count()), (0, 0));
-    assert_eq!(rt; job.report(), ZEROS);
-    Ok(())
-}
-
 fn check_scrap(
-    rt: &impl Abort,
-    heap: Global,
+    rt: &(impl Abort + AllocGlobal),
     stock: Stock<'_>,
     pieces: &[&[u8]],
 ) -> Result<(), Fail> {
-    let (mut job, mut file) = base_job(rt, heap)?;
+    let (job, file) = base_job(rt)?;
     let mut marks = [NO_MARK; 5];
     let mut bytes = [0u8; 20];
-    let mut shelves = shelves_with(&mut marks, &mut bytes, stock)?;
+    let shelves = shelves_with(&mut marks, &mut bytes, stock)?;
     let docket = docket_of(&file, 1)?;
-    let answer = scrap(docket, &mut job, &mut file, &mut shelves);
-    assert_eq!(rt; number_of(answer), 0);
-    check_after_scrap(rt, heap, pieces, &job, &file, &shelves)
+    let mut desk = Desk { job, file, shelves };
+    assert_eq!(rt; number_of(desk.scrap(docket)), 0);
+    let after = State {
+        pieces,
+        marks: &[],
+        kept: b"",
+        report: ZEROS,
+    };
+    desk.check_state(rt, ARRAY_HEAD, &after)
 }
 
 #[test]
 fn scraps(rt: HostRuntime) -> Result<(), Fail> {
-    check_scrap(&rt, rt.alloc(), BASE_STOCK, BASE_SCRAPPED)?;
+    check_scrap(&rt, BASE_STOCK, BASE_SCRAPPED)?;
     for (stock, pieces) in PASSING_SCRAPS {
-        check_scrap(&rt, rt.alloc(), *stock, pieces)?;
+        check_scrap(&rt, *stock, pieces)?;
     }
     Ok(())
 }
@@ -214,33 +197,30 @@ fn check_empty_looks(rt: &impl Abort, job: &Job, file: &[u8]) -> Result<(), Fail
     Ok(())
 }
 
-fn check_empty_calls(
-    rt: &impl Abort,
-    heap: Global,
-    job: &mut Job,
-    file: &mut [u8],
-    shelves: &mut Shelves<'_>,
-) -> Result<(), Fail> {
-    check_rows(rt, heap, EMPTY_WITH_BYTES, job, file, shelves)?;
-    check_rows(rt, heap, EMPTY_WITHOUT_BYTES, job, &mut [], shelves)?;
-    check_unshipped(rt, file, job, 1, 22)?;
-    let docket = docket_of(file, 1)?;
-    check_unscrapped(rt, heap, docket, job, file, shelves, 22)
+fn check_empty_calls(rt: &(impl Abort + AllocGlobal), desk: &mut Desk<'_>) -> Result<(), Fail> {
+    desk.check_rows(rt, EMPTY_WITH_BYTES)?;
+    check_unshipped(rt, &desk.file, &mut desk.job, 1, 22)?;
+    let docket = docket_of(&desk.file, 1)?;
+    check_unscrapped(rt, docket, desk, 22)?;
+    desk.file.clear();
+    desk.check_rows(rt, EMPTY_WITHOUT_BYTES)
 }
 
 #[test]
 fn empty_job(rt: HostRuntime) -> Result<(), Fail> {
-    let mut file = file_of(rt.alloc(), TINY_HEAD, TINY_PIECES)?;
-    let mut shelves = Shelves::of(Shelf::new(&mut []), Shelf::new(&mut []));
-    let mut job = Job::empty();
-    check_empty_looks(&rt, &job, &file)?;
-    check_empty_calls(&rt, rt.alloc(), &mut job, &mut file, &mut shelves)
+    let mut desk = Desk {
+        job: Job::empty(),
+        file: file_of(rt.alloc(), TINY_HEAD, TINY_PIECES)?,
+        shelves: Shelves::of(Shelf::new(&mut []), Shelf::new(&mut [])),
+    };
+    check_empty_looks(&rt, &desk.job, &desk.file)?;
+    check_empty_calls(&rt, &mut desk)
 }
 
 // A refused open leaves the job as it was; one that succeeds forgets its loans.
 #[test]
 fn open_again(rt: HostRuntime) -> Result<(), Fail> {
-    let (mut job, file) = base_job(&rt, rt.alloc())?;
+    let (mut job, file) = base_job(&rt)?;
     let before = job.report();
     let refusal = match job.open(&file[0..file.len().min(327)], 2, &BuiltInCodes) {
         Ok(docket) => {
@@ -252,9 +232,7 @@ fn open_again(rt: HostRuntime) -> Result<(), Fail> {
     assert_eq!(rt; refusal.number(), 9);
     assert_eq!(rt; job.report(), before);
     assert_eq!(rt; number_of(job.loan(FIRST, 9)), 13);
-    let Ok(docket) = job.open(&file, 2, &BuiltInCodes) else {
-        return Err(Fail::new("the file is refused"));
-    };
+    let docket = job.open(&file, 2, &BuiltInCodes)?;
     let report = job.report();
     let number = docket.number();
     let first = number_of(job.loan(FIRST, 9));
@@ -273,9 +251,7 @@ fn check_refused_run(
 ) -> Result<(), Fail> {
     let before = job.report();
     let mut shelves = Shelves::of(Shelf::new(&mut []), Shelf::new(&mut []));
-    let Some(format) = Format::named(FormatName::Linear(32)) else {
-        return Err(Fail::new("no such format"));
-    };
+    let format = Format::try_from(FormatName::Linear(32))?;
     let calls = [Call::Keep { loan: 4 }];
     match run(job, file, &mut shelves, 2, &format, &calls, answers) {
         Ok(docket) => {
@@ -294,8 +270,8 @@ fn check_refused_run(
 
 #[test]
 fn refused_run(rt: HostRuntime) -> Result<(), Fail> {
-    let (mut job, mut file) = base_job(&rt, rt.alloc())?;
+    let (mut job, mut file) = base_job(&rt)?;
     file.truncate(327);
-    let mut answers = vec![in rt.alloc(); Answer::Done(99)]?;
+    let mut answers: Vec<Answer> = vec![in rt.alloc(); Ok(99)]?;
     check_refused_run(&rt, &mut file, &mut job, &mut answers)
 }

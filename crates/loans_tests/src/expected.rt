@@ -1,6 +1,7 @@
 // Written by tools/expected_runs.py, which says how the values were computed.
 use crate::scripts::{Line, Row, Script, State, Stock, Trial};
 use formats::FormatName;
+use loans::Report;
 
 pub const TINY_HEAD: &[&[u8]] = &[
     b"DDS |\0\0\0\x07\x10\0\0\x04\0\0\0\x04\0\0\0\0\0\0\0\0\0\0\0\x03\0\0\0",
@@ -86,7 +87,12 @@ pub const EXAMPLE: Script<'static> = Script {
         pieces: &[b"fgtbiewj", b"ugguxcou", b"yboopixm"],
         marks: &[],
         kept: b"",
-        report: (1, 1, 0, 0),
+        report: Report {
+            granted: 1,
+            kept: 1,
+            cancelled: 0,
+            out: 0,
+        },
     },
     painters: &[(152, None)],
     scrapped: &[b"fgtbiewj", b"ugguxcou", b"yboopixm"],
@@ -104,7 +110,12 @@ pub const NO_CALLS: Script<'static> = Script {
         pieces: &[b"fgtbiewj", b"ugguxcou", b"yboopixm"],
         marks: &[],
         kept: b"",
-        report: (0, 0, 0, 0),
+        report: Report {
+            granted: 0,
+            kept: 0,
+            cancelled: 0,
+            out: 0,
+        },
     },
     painters: &[(152, None)],
     scrapped: &[b"fgtbiewj", b"ugguxcou", b"yboopixm"],
@@ -168,7 +179,12 @@ pub const ROWS: Script<'static> = Script {
         ],
         marks: &[(2, 268, 1)],
         kept: b"f",
-        report: (2, 0, 1, 1),
+        report: Report {
+            granted: 2,
+            kept: 0,
+            cancelled: 1,
+            out: 1,
+        },
     },
     painters: &[(268, None), (1, Some((2, 7))), (59, None)],
     scrapped: &[
@@ -223,7 +239,12 @@ pub const SPACE: Script<'static> = Script {
         ],
         marks: &[(3, 150, 6)],
         kept: b"CDaagy",
-        report: (3, 1, 1, 1),
+        report: Report {
+            granted: 3,
+            kept: 1,
+            cancelled: 1,
+            out: 1,
+        },
     },
     painters: &[
         (148, None),
@@ -279,7 +300,12 @@ pub const MARKS: Script<'static> = Script {
         ],
         marks: &[],
         kept: b"",
-        report: (2, 1, 1, 0),
+        report: Report {
+            granted: 2,
+            kept: 1,
+            cancelled: 1,
+            out: 0,
+        },
     },
     painters: &[(196, None), (2, Some((2, 7))), (130, None)],
     scrapped: &[
@@ -325,7 +351,12 @@ pub const NO_SHELVES: Script<'static> = Script {
         ],
         marks: &[],
         kept: b"",
-        report: (2, 1, 1, 0),
+        report: Report {
+            granted: 2,
+            kept: 1,
+            cancelled: 1,
+            out: 0,
+        },
     },
     painters: &[(328, None)],
     scrapped: &[
@@ -407,7 +438,12 @@ pub const FULL_HOUSE: Script<'static> = Script {
         ],
         marks: &[(33, 220, 1)],
         kept: b"h",
-        report: (35, 1, 2, 32),
+        report: Report {
+            granted: 35,
+            kept: 1,
+            cancelled: 2,
+            out: 32,
+        },
     },
     painters: &[(220, None), (1, Some((33, 6))), (2, None)],
     scrapped: &[
@@ -577,7 +613,12 @@ pub const CUBE_RUN: Script<'static> = Script {
             (15, 475, 1),
         ],
         kept: b"tciwosbumpukM9ptxabkadbodwiweNijyegihe2JaD",
-        report: (17, 7, 4, 6),
+        report: Report {
+            granted: 17,
+            kept: 7,
+            cancelled: 4,
+            out: 6,
+        },
     },
     painters: &[
         (223, None),
@@ -792,7 +833,12 @@ pub const VOLUME_RUN: Script<'static> = Script {
             (28, 160, 2),
         ],
         kept: b"bdUhcsrzdpbikmbhHR6BnpT5Lcio",
-        report: (28, 1, 4, 23),
+        report: Report {
+            granted: 28,
+            kept: 1,
+            cancelled: 4,
+            out: 23,
+        },
     },
     painters: &[
         (145, None),
@@ -960,7 +1006,12 @@ pub const NEARLY_FULL: Script<'static> = Script {
         ],
         marks: &[(12, 227, 8), (12, 214, 2), (12, 215, 5), (12, 235, 4)],
         kept: b"ehozwtchshZoqgdqskz",
-        report: (14, 5, 7, 2),
+        report: Report {
+            granted: 14,
+            kept: 5,
+            cancelled: 7,
+            out: 2,
+        },
     },
     painters: &[
         (204, None),
@@ -1011,7 +1062,12 @@ pub const BASE: Script<'static> = Script {
         ],
         marks: &[(1, 151, 4), (2, 224, 3), (1, 153, 2), (2, 252, 4)],
         kept: b"paagqkzCDiezk",
-        report: (4, 1, 0, 3),
+        report: Report {
+            granted: 4,
+            kept: 1,
+            cancelled: 0,
+            out: 3,
+        },
     },
     painters: &[
         (151, None),
@@ -1186,7 +1242,12 @@ pub const PASSING: &[Trial<'static>] = &[
             ],
             marks: &[(1, 151, 4), (2, 224, 3), (2, 252, 4)],
             kept: b"zyxwvutqpon",
-            report: (4, 1, 0, 3),
+            report: Report {
+                granted: 4,
+                kept: 1,
+                cancelled: 0,
+                out: 3,
+            },
         },
     },
     // other kept bytes
@@ -1211,7 +1272,12 @@ pub const PASSING: &[Trial<'static>] = &[
             ],
             marks: &[(1, 151, 4), (1, 153, 2)],
             kept: b"zyxwsr",
-            report: (4, 1, 1, 2),
+            report: Report {
+                granted: 4,
+                kept: 1,
+                cancelled: 1,
+                out: 2,
+            },
         },
     },
     // the marks in another order
@@ -1236,7 +1302,12 @@ pub const PASSING: &[Trial<'static>] = &[
             ],
             marks: &[(1, 153, 2), (2, 252, 4), (2, 224, 3)],
             kept: b"paagqkezk",
-            report: (4, 1, 0, 3),
+            report: Report {
+                granted: 4,
+                kept: 1,
+                cancelled: 0,
+                out: 3,
+            },
         },
     },
     // the marks in another order
@@ -1261,7 +1332,12 @@ pub const PASSING: &[Trial<'static>] = &[
             ],
             marks: &[(1, 153, 2), (2, 252, 4), (1, 151, 4)],
             kept: b"paagqkzCDi",
-            report: (4, 1, 0, 3),
+            report: Report {
+                granted: 4,
+                kept: 1,
+                cancelled: 0,
+                out: 3,
+            },
         },
     },
     // the marks in another order
@@ -1286,7 +1362,12 @@ pub const PASSING: &[Trial<'static>] = &[
             ],
             marks: &[(2, 252, 4), (2, 224, 3)],
             kept: b"agqkezk",
-            report: (4, 1, 1, 2),
+            report: Report {
+                granted: 4,
+                kept: 1,
+                cancelled: 1,
+                out: 2,
+            },
         },
     },
     // the marks in another order
@@ -1311,7 +1392,12 @@ pub const PASSING: &[Trial<'static>] = &[
             ],
             marks: &[(2, 252, 4), (2, 224, 3)],
             kept: b"agqkezk",
-            report: (4, 2, 0, 2),
+            report: Report {
+                granted: 4,
+                kept: 2,
+                cancelled: 0,
+                out: 2,
+            },
         },
     },
     // the marks in another order
@@ -1342,7 +1428,12 @@ pub const PASSING: &[Trial<'static>] = &[
                 (2, 208, 3),
             ],
             kept: b"paagqkzCDiezkxau",
-            report: (4, 1, 0, 3),
+            report: Report {
+                granted: 4,
+                kept: 1,
+                cancelled: 0,
+                out: 3,
+            },
         },
     },
     // a mark over two rows, and one that ends with its piece
@@ -1367,7 +1458,12 @@ pub const PASSING: &[Trial<'static>] = &[
             ],
             marks: &[(2, 254, 2), (2, 252, 4)],
             kept: b"kziezk",
-            report: (4, 1, 1, 2),
+            report: Report {
+                granted: 4,
+                kept: 1,
+                cancelled: 1,
+                out: 2,
+            },
         },
     },
     // a mark over two rows, and one that ends with its piece
@@ -1392,7 +1488,12 @@ pub const PASSING: &[Trial<'static>] = &[
             ],
             marks: &[(1, 161, 5), (1, 153, 2)],
             kept: b"paagqCD",
-            report: (4, 1, 1, 2),
+            report: Report {
+                granted: 4,
+                kept: 1,
+                cancelled: 1,
+                out: 2,
+            },
         },
     },
     // a mark over two rows, and one that ends with its piece
@@ -1417,7 +1518,12 @@ pub const PASSING: &[Trial<'static>] = &[
             ],
             marks: &[(1, 161, 5), (2, 254, 2), (1, 153, 2), (2, 252, 4)],
             kept: b"paagqkzCDiezk",
-            report: (4, 1, 1, 2),
+            report: Report {
+                granted: 4,
+                kept: 1,
+                cancelled: 1,
+                out: 2,
+            },
         },
     },
     // a mark that begins and one that ends with the piece, over all of its rows
@@ -1442,7 +1548,12 @@ pub const PASSING: &[Trial<'static>] = &[
             ],
             marks: &[(2, 224, 3), (2, 252, 4)],
             kept: b"aagiezk",
-            report: (4, 1, 1, 2),
+            report: Report {
+                granted: 4,
+                kept: 1,
+                cancelled: 1,
+                out: 2,
+            },
         },
     },
     // a mark that begins and one that ends with the piece, over all of its rows
@@ -1467,7 +1578,12 @@ pub const PASSING: &[Trial<'static>] = &[
             ],
             marks: &[(1, 148, 1), (2, 224, 3), (2, 252, 4)],
             kept: b"paagiezk",
-            report: (4, 1, 0, 3),
+            report: Report {
+                granted: 4,
+                kept: 1,
+                cancelled: 0,
+                out: 3,
+            },
         },
     },
 ];

@@ -5,53 +5,54 @@ use crate::expected::{
     CUBE_RUN, EXAMPLE, FULL_HOUSE, MARKS, NEARLY_FULL, NO_CALLS, NO_SHELVES, ROWS, SPACE,
     TINY_HEAD, TINY_PIECES, VOLUME_RUN,
 };
-use crate::scripts::{check_script, number_or_refusal};
+use crate::scripts::check_script;
 use dds::Piece;
 use loans::{Job, Shelves};
+use refusal::Refusal;
 use shelf::Shelf;
 use std::process::Abort;
 use std::test::Fail;
 
 #[test]
 fn worked_example(rt: HostRuntime) -> Result<(), Fail> {
-    check_script(&rt, rt.alloc(), &EXAMPLE)
+    check_script(&rt, &EXAMPLE)
 }
 
 #[test]
 fn no_calls(rt: HostRuntime) -> Result<(), Fail> {
-    check_script(&rt, rt.alloc(), &NO_CALLS)
+    check_script(&rt, &NO_CALLS)
 }
 
 #[test]
 fn ends_of_rows(rt: HostRuntime) -> Result<(), Fail> {
-    check_script(&rt, rt.alloc(), &ROWS)
+    check_script(&rt, &ROWS)
 }
 
 #[test]
 fn space_on_the_shelves(rt: HostRuntime) -> Result<(), Fail> {
-    check_script(&rt, rt.alloc(), &SPACE)?;
-    check_script(&rt, rt.alloc(), &MARKS)?;
-    check_script(&rt, rt.alloc(), &NO_SHELVES)
+    check_script(&rt, &SPACE)?;
+    check_script(&rt, &MARKS)?;
+    check_script(&rt, &NO_SHELVES)
 }
 
 #[test]
 fn thirty_two_loans_out(rt: HostRuntime) -> Result<(), Fail> {
-    check_script(&rt, rt.alloc(), &FULL_HOUSE)
+    check_script(&rt, &FULL_HOUSE)
 }
 
 #[test]
 fn calls_on_a_cube(rt: HostRuntime) -> Result<(), Fail> {
-    check_script(&rt, rt.alloc(), &CUBE_RUN)
+    check_script(&rt, &CUBE_RUN)
 }
 
 #[test]
 fn calls_on_a_volume(rt: HostRuntime) -> Result<(), Fail> {
-    check_script(&rt, rt.alloc(), &VOLUME_RUN)
+    check_script(&rt, &VOLUME_RUN)
 }
 
 #[test]
 fn calls_on_shelves_often_full(rt: HostRuntime) -> Result<(), Fail> {
-    check_script(&rt, rt.alloc(), &NEARLY_FULL)
+    check_script(&rt, &NEARLY_FULL)
 }
 
 const FIRST: Piece = Piece {
@@ -66,8 +67,8 @@ fn check_loan_and_keep(
     shelves: &mut Shelves<'_>,
     number: u32,
 ) -> Result<(), Fail> {
-    assert_eq!(rt; number_or_refusal(job.loan(FIRST, 7)), Ok(number));
-    assert_eq!(rt; number_or_refusal(job.keep(shelves, number)), Ok(0));
+    assert_eq!(rt; job.loan(FIRST, 7).map_err(Refusal::number), Ok(number));
+    assert_eq!(rt; job.keep(shelves, number).map_err(Refusal::number), Ok(0));
     Ok(())
 }
 
@@ -80,10 +81,10 @@ fn check_all_numbers(
     for number in 1..65535u32 {
         check_loan_and_keep(rt, job, shelves, number)?;
     }
-    assert_eq!(rt; number_or_refusal(job.loan(FIRST, 7)), Ok(65535));
-    assert_eq!(rt; number_or_refusal(job.loan(FIRST, 7)), Err(13));
-    assert_eq!(rt; number_or_refusal(job.keep(shelves, 65535)), Ok(0));
-    assert_eq!(rt; number_or_refusal(job.loan(FIRST, 7)), Err(15));
+    assert_eq!(rt; job.loan(FIRST, 7).map_err(Refusal::number), Ok(65535));
+    assert_eq!(rt; job.loan(FIRST, 7).map_err(Refusal::number), Err(13));
+    assert_eq!(rt; job.keep(shelves, 65535).map_err(Refusal::number), Ok(0));
+    assert_eq!(rt; job.loan(FIRST, 7).map_err(Refusal::number), Err(15));
     assert_eq!(rt; job.report().granted, 65535);
     Ok(())
 }
