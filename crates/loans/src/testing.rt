@@ -67,14 +67,13 @@ impl Job {
     pub(crate) fn owns(&self, shelves: &Shelves<'_>) -> bool
         ensures { result ≡ are_ours (book_of self.now) (stock_of shelves.now) }
     {
-        let ledger = self.ledger();
         let marks = shelves.marks().elements();
         let covered = shelves.bytes().count();
-        if marks.len() != ledger.marks || covered != ledger.bytes {
+        if marks.len() != self.ledger.marks || covered != self.ledger.bytes {
             return false;
         }
-        match tally(ledger.outs(), marks, covered) {
-            Some(counts) => do_agree(ledger.outs(), &counts),
+        match tally(self.outs(), marks, covered) {
+            Some(counts) => do_agree(self.outs(), &counts),
             None => false,
         }
     }
