@@ -1,7 +1,7 @@
 -- When shelves are a job's, by the counts of one pass.
 use Rattle.std.proofs.Common.{◌≡◌, ℕ, ◌≤◌, Bool, true, false, ◌&&◌, eqb, List, length, sym, refl, ap, ◌∙◌, subst, ap₂, subst₂, arith}
 use Rattle.std.proofs.lemmas.List.{get_or-take}
-use Rattle.std.proofs.lemmas.Bool.{eq-eqb, ne_eqb, and_left, and_right}
+use Rattle.std.proofs.lemmas.Bool.{eq-eqb}
 use Rattle.shelf.specs.Model.{contents}
 use Rattle.loans.specs.declared.job.Job.{Job}
 use Rattle.loans.specs.declared.ledger.Ledger.{Ledger}
@@ -24,16 +24,6 @@ outs_distinct l b rising j k h i =
     omega (arith, rising j k h (omega arith))
 
 module _ (b : Book) (k : Stock) where
-  pub other_marks : (length k.marks ≡ b.marks → ⊥) → are_ours b k ≡ false
-  other_marks e = and_left _ _ (and_left _ _ (ne_eqb _ _ e))
-
-  pub other_bytes : (length k.bytes ≡ b.bytes → ⊥) → are_ours b k ≡ false
-  other_bytes e = and_left _ _ (and_right (eqb (length k.marks) b.marks) _ (ne_eqb _ _ e))
-
-  pub not_sound : (all_sound b.outs k.marks && eqb (lengths k.marks) (length k.bytes)) ≡ false → are_ours b k ≡ false
-  not_sound e =
-      and_right (eqb (length k.marks) b.marks && eqb (length k.bytes) b.bytes) _ (and_right (all_counted b.outs k.marks) _ e)
-
   pub tallied : length k.marks ≡ b.marks → length k.bytes ≡ b.bytes → (counts : List ℕ) → length b.outs ≤ 32
       → Tally b.outs k.marks (length k.bytes) counts → agree b.outs counts ≡ are_ours b k
   tallied marks bytes counts few tally =

@@ -6,14 +6,11 @@ use Rattle.loans.proofs.job.Job.call_all.Goals as goal
 
 pub call-requires : goal.call-requires
 call-requires c =
-    along_ours (state_of c.args.self.now c.args.file.now c.args.shelves.now) (state_of c.loop-call.self c.loop-call.file c.loop-call.shelves) c.args.calls.now c.loop-call.call-index
-    (vec_items c.args.answers.now) (vec_items c.loop-call.answers) (vec_len c.loop-call.answers) (vec_capacity c.loop-call.answers) c.loop-call.invariant
-    c.args.known c.requires.along
+    along_ours c.loop-call.invariant c.args.known c.requires.along
 
 pub loop-call-preserved : goal.loop-call-preserved
 loop-call-preserved c =
-    along_one (state_of c.args.self.now c.args.file.now c.args.shelves.now) (state_of c.loop-call.self c.loop-call.file c.loop-call.shelves) c.args.calls.now c.loop-call.call-index
-    (vec_items c.args.answers.now) (vec_items c.loop-call.answers) (vec_len c.loop-call.answers) (vec_capacity c.loop-call.answers) c.loop-call.invariant
+    along_one c.loop-call.invariant
     c.loop-call-test.true _ (state_of c.call.new.self c.call.new.file c.call.new.shelves) c.call.result
     (vec_items c.push_reserved.new.self) (vec_len c.push_reserved.new.self) (vec_capacity c.push_reserved.new.self)
     (called_answer (deed_of (get_or c.args.calls.now c.loop-call.call-index _)) c.loop-call.self c.call.new.self c.loop-call.file c.call.new.file c.loop-call.shelves c.call.new.shelves c.call.result c.call.ensures)
