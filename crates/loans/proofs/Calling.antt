@@ -1,5 +1,5 @@
 -- One call after the other, and their answers.
-use Rattle.std.proofs.Common.{◌≡◌, ℕ, ◌+◌, ◌-◌, ◌<◌, ◌≤◌, Bool, true, List, [], ◌∷◌, ◌++◌, map, length, get_or, take, Ok, Err, Option, Result, sym, refl, ap, ◌∙◌, subst, ap₂, append_assoc, append-nil, arith, take_all}
+use Rattle.std.proofs.Common.{◌≡◌, ℕ, ◌+◌, ◌-◌, ◌<◌, ◌≤◌, Bool, true, List, [], ◌∷◌, ◌++◌, map, length, get_or, take, Ok, Err, Option, Result, sym, ap, ◌∙◌, subst, ap₂, append_assoc, arith, take_all}
 use Rattle.std.proofs.lemmas.List.{take_more, take-map, map_push}
 use Rattle.refusal.specs.declared.Refusal.{Refusal}
 use Rattle.loans.specs.declared.call.Call.{Call}
@@ -32,10 +32,7 @@ pub record Along (s₀ s : State) (cs : List Call) (i : ℕ) (old items : List (
   pub answers : items ≡ old ++ answers_to s₀ (map deed_of (take i cs))
   pub room : len + (length cs - i) ≤ cap
 
-pub along_none : (s : State) (cs : List Call) (old : List (Result ℕ Refusal)) (len cap : ℕ) → len + length cs ≤ cap → Along s s cs 0 old old len cap
-along_none s cs old len cap room = record { state = refl; answers = sym (append-nil old); room = omega arith }
-
-module _ (s₀ s : State) (cs : List Call) (i : ℕ) (old items : List (Result ℕ Refusal)) (len cap : ℕ) (a : Along s₀ s cs i old items len cap) where
+module _ {s₀ s : State} {cs : List Call} {i : ℕ} {old items : List (Result ℕ Refusal)} {len cap : ℕ} (a : Along s₀ s cs i old items len cap) where
   pub along_ours : (known : Bool) → OursAlong known s₀ (map deed_of cs) → known ≡ true → are_ours s.book s.stock ≡ true
   along_ours known ours e =
       subst (λ (x : State). are_ours x.book x.stock ≡ true) (ap (after_all s₀) (take-map deed_of i cs) ∙ sym a.state) (ours e i)

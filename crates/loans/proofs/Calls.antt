@@ -2,7 +2,7 @@
 use Rattle.std.proofs.Common.{◌≡◌, suc, List, [], ◌∷◌, ◌++◌, length, refl, ap}
 use Rattle.loans.specs.Strokes.{State}
 use Rattle.loans.specs.Rules.{Deed, answer_to, after, answers_to, after_all}
-use Rattle.loans.specs.History.{Event, written_down, history_of}
+use Rattle.loans.specs.History.{Event, written_down}
 
 -- calls after calls
 pub after_all_append : (s : State) (ds more : List Deed) → after_all s (ds ++ more) ≡ after_all (after_all s ds) more
@@ -29,7 +29,3 @@ pub written_down_append : (h : List Event) (s : State) (ds more : List Deed)
     → written_down h (ds ++ more) (answers_to s (ds ++ more)) ≡ written_down (written_down h ds (answers_to s ds)) more (answers_to (after_all s ds) more)
 written_down_append h s [] more = refl
 written_down_append h s (d ∷ ds) more = written_down_append (record { call = d; answer = answer_to s d } ∷ h) (after s d) ds more
-
-pub history_of_push : (s : State) (ds : List Deed) (d : Deed)
-    → history_of (ds ++ d ∷ []) (answers_to s (ds ++ d ∷ [])) ≡ record { call = d; answer = answer_to (after_all s ds) d } ∷ history_of ds (answers_to s ds)
-history_of_push s ds d = written_down_append [] s ds (d ∷ [])

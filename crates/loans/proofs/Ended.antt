@@ -3,6 +3,8 @@ use Rattle.std.proofs.Common.{◌≡◌, ℕ, suc, ◌+◌, ◌-◌, ◌*◌, �
 use Rattle.std.proofs.lemmas.List.{get_or-take, get_or-drop, get_or_append_left, get_or-append_right}
 use Rattle.std.proofs.lemmas.Bool.{cases_lt, cond-false, eqb-true, eqb-false, eq-eqb, ne_eqb, and_parts}
 use Rattle.shelf.proofs.Runs.{slid_front}
+use Rattle.loans.specs.declared.ending.Ending.{Ending}
+use Rattle.loans.specs.declared.ending.Ending.TheVariants.{Kept, Cancelled}
 use Rattle.loans.specs.declared.ledger.Ledger.{Ledger}
 use Rattle.loans.specs.declared.ledger.Loan.{Loan}
 use Rattle.loans.specs.declared.mark.Mark.{Mark}
@@ -12,8 +14,8 @@ use Rattle.loans.specs.Stocks.{is_number, of_loan, marks_of, all_counted}
 use Rattle.loans.specs.Strokes.{counted_loan}
 use Rattle.loans.specs.Finding.{StandsAt}
 use Rattle.loans.specs.Tallies.{Distinct}
-use Rattle.loans.specs.Writing.{ledger_ended}
-use Rattle.loans.proofs.Recounting.{Ready, other_number}
+use Rattle.loans.specs.Writing.{kept_by, cancelled_by, ledger_ended}
+use Rattle.loans.proofs.Recounting.{other_number}
 use Rattle.loans.proofs.Searches.{less_at}
 use Rattle.loans.proofs.Slots.{none_has}
 use Rattle.loans.proofs.Sifted.{length_slid}
@@ -144,11 +146,7 @@ module _ (l : Ledger) (b : Balanced l) (k more less m y : ℕ) (out : k < l.out)
       Less : Loan → Loan → Type 0
       Less x y = x.number < y.number
 
-pub ended_ready : (a : ℕ) (l r : Ledger) (k more less m y : ℕ) → Ready a l → k < l.out → more + less ≡ 1 → r ≡ ledger_ended l k more less m y → Ready a r
-ended_ready a l r k more less m y ready out one is =
-    subst (Ready a) (sym is) (record {
-      balanced = ended_balanced l ready.balanced k more less m y out one;
-      inside = ended_inside l ready.balanced k more less m y out a ready.inside;
-      given = ended_given l ready.balanced k more less m y out ready.given;
-      rising = ended_rising l ready.balanced k more less m y out ready.rising;
-    })
+-- each ending counts one loan
+pub counts_one : (e : Ending) → kept_by e + cancelled_by e ≡ 1
+counts_one Kept = refl
+counts_one Cancelled = refl

@@ -1,5 +1,4 @@
 mod Counting
-mod Granting
 mod Slots
 mod Tallying
 mod Owning

@@ -65,11 +65,6 @@ module _ {A : Type 0} where
         go true e h' later = (inl refl, e)
         go false e h' later = let r = later h' in (inr r.0, r.1)
 
-    pub some_of_among : (xs : List A) (a : A) → Among xs a → p a ≡ true → some_of p xs ≡ true
-    some_of_among [] a m e = absurd m
-    some_of_among (x ∷ xs) a (inl q) e = rw (← q, e)
-    some_of_among (x ∷ xs) a (inr m) e = elim (p x) as (λ b. cond b true (some_of p xs) ≡ true) [ true ↦ refl | false ↦ some_of_among xs a m e ]
-
     pub among_kept_by : (xs : List A) (a : A) → Among (filter p xs) a → Among xs a × (p a ≡ true)
     among_kept_by [] a m = absurd m
     among_kept_by (x ∷ xs) a m = go (p x) refl m (λ m'. let r = among_kept_by xs a m' in (inr r.0, r.1))

@@ -36,7 +36,7 @@ unfound_all ms n = record {
   begin = ap lengths (sym (take_all (length ms) ms (omega arith)));
 }
 
-module _ (ms : List Mark) (n k begin : ℕ) (u : Unfound ms n k begin) (some : 0 < k) where
+module _ {ms : List Mark} {n k begin : ℕ} (u : Unfound ms n k begin) (some : 0 < k) where
   -- the mark before the position
   abbrev last : ℕ
   last = k - 1
@@ -75,8 +75,8 @@ module _ (ms : List Mark) (n k begin : ℕ) (u : Unfound ms n k begin) (some : 0
     begin = begin_back;
   }
 
-pub unfound_none : (ms : List Mark) (n k begin : ℕ) → Unfound ms n k begin → k ≡ 0 → marks_of n ms ≡ 0
-unfound_none ms n k begin u z = marks_none n ms (ap (λ i. some_of (of_loan n) (drop i ms)) (sym z) ∙ u.none)
+pub unfound_none : {ms : List Mark} {n k begin : ℕ} → Unfound ms n k begin → k ≡ 0 → marks_of n ms ≡ 0
+unfound_none {ms = ms} {n = n} u z = marks_none n ms (ap (λ i. some_of (of_loan n) (drop i ms)) (sym z) ∙ u.none)
 
 module _ (n : ℕ) (m : Mark) (of-n : of_loan n m ≡ true) (behind : List Mark) (last : some_of (of_loan n) behind ≡ false) where
   some_mid : (front : List Mark) → some_of (of_loan n) (front ++ m ∷ behind) ≡ true

@@ -25,7 +25,7 @@ back_none ms ks f n covered = record {
   sized = refl;
 }
 
-module _ (ms : List Mark) (ks f₀ f : List ℕ) (n k end : ℕ) (b : Back ms ks f₀ f n k end) (some : 0 < k) (covered : lengths ms ≡ length ks) where
+module _ {ms : List Mark} {ks f₀ f : List ℕ} {n k end : ℕ} (b : Back ms ks f₀ f n k end) (some : 0 < k) (covered : lengths ms ≡ length ks) where
   abbrev last : ℕ
   last = k - 1
 
@@ -87,9 +87,3 @@ module _ (ms : List Mark) (ks f₀ f : List ℕ) (n k end : ℕ) (b : Back ms ks
         file = now ∙ sym (step ∙ cond-true _ _ _ (eq-eqb n m.loan (sym e)));
         sized = ap length laid ∙ length-paste f m.place part (length part) (omega (arith, inside last back_inside, len, b.sized)) (omega arith) ∙ b.sized;
       }
-
--- all is put back
-pub back_all : (ms : List Mark) (ks f₀ f : List ℕ) (n k end : ℕ) → Back ms ks f₀ f n k end → k ≡ 0 → f ≡ restored n f₀ ms ks
-back_all ms ks f₀ f n k end b z =
-    let nothing : end ≡ 0 = b.end ∙ ap (λ i. lengths (take i ms)) z in
-    b.file ∙ ap₂ (λ i j. restored n f₀ (drop i ms) (drop j ks)) z nothing

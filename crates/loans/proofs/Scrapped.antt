@@ -2,7 +2,7 @@
 use Rattle.std.proofs.Common.{◌≡◌, ℕ, suc, ◌+◌, ◌<◌, ◌≤◌, Bool, true, false, cond, not, ◌&&◌, eqb, leb, ◌≢◌, List, [], ◌∷◌, ◌++◌, map, length, get_or, take, drop, Some, None, Ok, Err, filter, Option, Result, sym, refl, ap, ◌∙◌, subst, ap₂, arith, length-drop, length-take-le}
 use lib.Seq.{paste}
 use Rattle.std.proofs.lemmas.List.Edits.{length-paste}
-use Rattle.std.proofs.lemmas.List.{length-append, length-map, drop_more, nil_from_length}
+use Rattle.std.proofs.lemmas.List.{length-append, length-map, drop_more}
 use Rattle.refusal.specs.declared.Refusal.{Refusal}
 use Rattle.std.proofs.lemmas.Bool.{not_from_true, cond-false, and_parts, and_from, eqb-true, eqb-false, eq-eqb, ne_eqb}
 use Rattle.loans.specs.declared.job.Job.{Job}
@@ -163,9 +163,3 @@ module _ (s₀ : State) (s : Job) (f : List ℕ) (v : Shelves) (c : Cancelling s
   cancelled_one t f' w (Err e) called =
       let both : ◌≡◌ {A = Option Refusal} (Some e) None = sym called.0 ∙ none in
       let z : ◌≡◌ {A = ℕ} 0 1 = cc in absurd (omega arith)
-
--- once none is out
-pub cancelled_all : (s₀ : State) (s : Job) (f : List ℕ) (v : Shelves) → Cancelling s₀ (state_of s f v) → s.ledger.out ≡ 0
-    → state_of s f v ≡ all_cancelled s₀.book.outs s₀
-cancelled_all s₀ s f v c z =
-    sym (ap (λ (xs : List Loan). all_cancelled xs (state_of s f v)) (nil_from_length (outs s.ledger) (out_count s.ledger s.balanced ∙ z))) ∙ c.rest

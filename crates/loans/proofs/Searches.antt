@@ -10,27 +10,6 @@ module _ {A : Type 0} (p : A → Bool) where
   some_append (x ∷ xs) ys =
       elim (p x) as (λ b. cond b true (some_of p (xs ++ ys)) ≡ cond (cond b true (some_of p xs)) true (some_of p ys)) [ true ↦ refl | false ↦ some_append xs ys ]
 
-  -- none passes, so none stands before or behind
-  pub none_parts : (xs ys : List A) → some_of p (xs ++ ys) ≡ false → (some_of p xs ≡ false) × (some_of p ys ≡ false)
-  none_parts [] ys h = (refl, h)
-  none_parts (x ∷ xs) ys h = go (p x) h (none_parts xs ys)
-    where
-      go : (b : Bool) → cond b true (some_of p (xs ++ ys)) ≡ false → (some_of p (xs ++ ys) ≡ false → (some_of p xs ≡ false) × (some_of p ys ≡ false))
-          → (cond b true (some_of p xs) ≡ false) × (some_of p ys ≡ false)
-      go true h' later = absurd (true≢false h')
-      go false h' later = later h'
-
-  -- one place more: where none passed before
-  pub some_take_suc : (d : A) (xs : List A) (k : ℕ) → k < length xs → some_of p (take k xs) ≡ false → some_of p (take (suc k) xs) ≡ p (get_or xs k d)
-  some_take_suc d [] k h n = absurd (omega arith)
-  some_take_suc d (x ∷ xs) zero h n = elim (p x) as (λ b. cond b true false ≡ b) [ true ↦ refl | false ↦ refl ]
-  some_take_suc d (x ∷ xs) (suc k) h n = go (p x) n (some_take_suc d xs k (omega arith))
-    where
-      go : (b : Bool) → cond b true (some_of p (take k xs)) ≡ false → (some_of p (take k xs) ≡ false → some_of p (take (suc k) xs) ≡ p (get_or xs k d))
-          → cond b true (some_of p (take (suc k) xs)) ≡ p (get_or xs k d)
-      go true n' later = absurd (true≢false n')
-      go false n' later = later n'
-
   -- what is found at a place, with none before it, is the first
   pub first_at : (d e : A) (xs : List A) (k : ℕ) → k < length xs → some_of p (take k xs) ≡ false → p (get_or xs k e) ≡ true
       → (first_or d p xs ≡ get_or xs k e) × (some_of p xs ≡ true)

@@ -61,23 +61,8 @@ pub record Sifted (old st : Stock) (n i begin' : ℕ) (ends : Ends) : Type 0 whe
   pub most_marks : st.most_marks ≡ old.most_marks
   pub most_bytes : st.most_bytes ≡ old.most_bytes
 
-pub sifted_none : (old : Stock) (n : ℕ) → Sifted old old n 0 0 (record { marks = 0; bytes = 0 })
-sifted_none old n = record {
-  marks_front = refl;
-  marks_back = refl;
-  marks_low = omega arith;
-  marks_count = refl;
-  bytes_front = refl;
-  bytes_back = refl;
-  bytes_low = omega arith;
-  bytes_count = refl;
-  begin = refl;
-  most_marks = refl;
-  most_bytes = refl;
-}
-
-module _ (old st : Stock) (n i begin : ℕ) (ends : Ends) (s : Sifted old st n i begin ends) (inside : i < length old.marks)
-    (covered : lengths old.marks ≡ length old.bytes) (m : Mark) (here : m ≡ get_or st.marks i no_mark) where
+module _ {old st : Stock} {n i begin : ℕ} {ends : Ends} (s : Sifted old st n i begin ends) (inside : i < length old.marks)
+    (covered : lengths old.marks ≡ length old.bytes) {m : Mark} (here : m ≡ get_or st.marks i no_mark) where
   -- the mark at hand is still the old one
   mark_is : m ≡ get_or old.marks i no_mark
   mark_is =

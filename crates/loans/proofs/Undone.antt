@@ -1,10 +1,7 @@
 -- What an undo that is carried out takes back and leaves.
-use Rattle.std.proofs.Common.{◌≡◌, ℕ, zero, suc, ◌+◌, ◌-◌, ◌<◌, ◌≤◌, Bool, true, false, cond, ◌&&◌, eqb, leb, ◌≢◌, List, [], ◌∷◌, ◌++◌, length, get_or, take, drop, Result, sym, refl, ap, ◌∙◌, arith}
+use Rattle.std.proofs.Common.{◌≡◌, ℕ, zero, suc, ◌+◌, ◌-◌, ◌<◌, ◌≤◌, Bool, true, false, cond, ◌&&◌, eqb, leb, ◌≢◌, List, [], ◌∷◌, ◌++◌, length, get_or, take, drop, sym, refl, ap, ◌∙◌, arith}
 use Rattle.std.proofs.lemmas.Bool.{false≢true, cond-true, cond-false, and_parts, leb-true, eqb-true, ne_eqb}
-use Rattle.refusal.specs.declared.Refusal.{Refusal}
 use Rattle.shelf.specs.Model.{contents}
-use Rattle.shelf.specs.Calls.{TakeOff}
-use Rattle.shelf.proofs.Shelves.{counted, take_off_done}
 use Rattle.dds.specs.declared.area.Area.{Area}
 use Rattle.loans.specs.declared.job.Job.{Job}
 use Rattle.loans.specs.declared.ledger.Loan.{Loan}
@@ -98,15 +95,6 @@ undo_at s f v n who k position begin held newest =
       };
       some = omega (arith, counted_at (outs s.ledger) (contents v.marks) o.counted k held.loan.inside, some, ap (λ y. marks_of y (contents v.marks)) held.loan.number);
     }
-
--- mark and bytes taken off
-pub taken_off : (v w : Shelves) (k begin : ℕ) (r r' : Result ℕ Refusal) → k < length (contents v.marks)
-    → begin + (get_or (contents v.marks) k no_mark).length ≤ length (contents v.bytes) → TakeOff v.marks k 1 r w.marks
-    → TakeOff v.bytes begin (get_or (contents v.marks) k no_mark).length r' w.bytes → stock_of w ≡ stock_less (stock_of v) k begin
-taken_off v w k begin r r' inside on-shelf marks bytes =
-    let p = (take_off_done v.marks w.marks k 1 r (omega (arith, counted v.marks)) marks).1 in
-    let q = (take_off_done v.bytes w.bytes begin (get_or (contents v.marks) k no_mark).length r' (omega (arith, counted v.bytes)) bytes).1 in
-    λ i. record { marks = p.holds i; bytes = q.holds i; most_marks = p.capacity i; most_bytes = q.capacity i }
 
 -- the steps of an undo: what they left, and what each is
 pub record UndoSteps (s t : Job) (f f' : List ℕ) (v w : Shelves) (n who k position begin strokes : ℕ) : Type 0 where

@@ -18,6 +18,7 @@ pub struct Loan {
 #[derive(Clone, Copy)]
 pub struct Ledger {
     pub number: Option<u32>,
+    // fixed memory with a count beside it: a job is Copy, which no vector of the loans would be
     pub loans: [Loan; 32],
     pub out: u32,
     pub granted: u32,

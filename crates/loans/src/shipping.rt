@@ -20,13 +20,13 @@ pub fn ship(docket: Docket, job: &mut Job) -> Result<Report, Unspent>
     ensures shipped { Shipped docket job.old result job.new }
     ensures same { IfErr result (λ unspent. unspent.docket ≡ docket) }
 {
-    if job.ledger().number != Some(docket.number()) {
+    if job.ledger.number != Some(docket.number()) {
         return Err(Unspent {
             docket,
             refusal: Refusal::OtherDocket,
         });
     }
-    if job.ledger().out > 0 {
+    if job.ledger.out > 0 {
         return Err(Unspent {
             docket,
             refusal: Refusal::LoansOut,

@@ -67,19 +67,19 @@ impl Job {
     pub(crate) fn owns(&self, shelves: &Shelves<'_>) -> bool
         ensures { result ≡ are_ours (book_of self.now) (stock_of shelves.now) }
     {
-        let ledger = self.ledger();
         let marks = shelves.marks().elements();
         let covered = shelves.bytes().count();
-        if marks.len() != ledger.marks || covered != ledger.bytes {
+        if marks.len() != self.ledger.marks || covered != self.ledger.bytes {
             return false;
         }
-        match tally(ledger.outs(), marks, covered) {
-            Some(counts) => do_agree(ledger.outs(), &counts),
+        match tally(self.outs(), marks, covered) {
+            Some(counts) => do_agree(self.outs(), &counts),
             None => false,
         }
     }
 
-    // The same, without a pass over the marks where it is known.
+    // The same, without a pass over the marks where it is known. What is known stands in a `requires` of each function: a type of job,
+    // file and shelves would owe it again after each call, where only the law over whole runs shows it, and a keep has no file.
     pub(crate) fn owns_or_knows(&self, shelves: &Shelves<'_>, known: bool) -> bool
         requires { OursWhere known (book_of self.now) (stock_of shelves.now) }
         ensures { result ≡ are_ours (book_of self.now) (stock_of shelves.now) }

@@ -1,10 +1,16 @@
-use Rattle.std.proofs.Common.{◌∙◌, rules, tests}
+use Rattle.std.proofs.Common.{◌≡◌, ◌||◌, List, [], ◌∷◌, ◌∙◌, refl, ap, rules, tests}
+use Rattle.std.specs.List.{list_any}
 use Rattle.std.proofs.lemmas.Iterator.{YieldsList-from_slice}
 use Rattle.std.proofs.lemmas.Iterator.Search.{any_from_yields_List}
+use Rattle.dds.specs.declared.piece.Piece.{Piece}
 use Rattle.loans.specs.declared.ledger.Loan.{Loan}
-use Rattle.loans.specs.Lending.{same_piece}
-use Rattle.loans.proofs.Granting.{outs_any}
+use Rattle.loans.specs.Lending.{same_piece, piece_is_out}
 use Rattle.loans.proofs.lending.is_out.Goals as goal
+
+-- a piece is out where some loan has it
+outs_any : (p : Piece) (ls : List Loan) → list_any (λ (l : Loan). same_piece l.piece p) ls ≡ piece_is_out ls p
+outs_any p [] = refl
+outs_any p (l ∷ ls) = ap (λ b. same_piece l.piece p || b) (outs_any p ls)
 
 pub returns : goal.returns
 returns c =

@@ -1,5 +1,4 @@
-use Rattle.std.proofs.Common.{sym, ap, subst}
-use Rattle.loans.specs.declared.ledger.Ledger.{Ledger}
+use Rattle.std.proofs.Common.{sym, subst}
 use Rattle.loans.specs.Books.{outs}
 use Rattle.loans.specs.Finding.{Found}
 use Rattle.loans.proofs.Endings.{keep_carried}
@@ -13,5 +12,4 @@ returns c f =
       shelves = c.drop_loan.ensures;
       layout = c.end_loan.ensures.layout;
       ledger = c.end_loan.ensures.ledger;
-      out = ap (λ (l : Ledger). l.out) c.ledger.ensures.value;
     }) f
