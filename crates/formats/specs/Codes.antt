@@ -1,5 +1,5 @@
 -- Which codes name which format, as two tables: one for DXGI codes, one for the other codes.
-use Rattle.std.specs.Prelude.{◌≡◌, ℕ, ◌+◌, ◌*◌, ◌≤◌, cond, ◌&&◌, ◌⊎◌, List, [], ◌∷◌, ◌++◌, map, Some, None, codes, Option, nat_le}
+use Rattle.std.specs.Prelude.{◌≡◌, ℕ, ◌+◌, ◌*◌, ◌≤◌, Bool, cond, ◌&&◌, ◌⊎◌, List, [], ◌∷◌, ◌++◌, map, Some, None, codes, Option, nat_le}
 use Prim.Native.String.{String}
 use Rattle.formats.specs.declared.kinds.FormatName.{FormatName}
 use Rattle.formats.specs.declared.kinds.FormatName.TheVariants.{Linear, Paired, Block}
@@ -58,6 +58,10 @@ plain_rows =
 abbrev pub ranges : List Row → List CodeRange
 ranges [] = []
 ranges (r ∷ rs) = map (λ c. record { first = c.0; last = c.1; name = r.name }) r.codes ++ ranges rs
+
+-- a range has the code
+abbrev pub has_code : ℕ → CodeRange → Bool
+has_code code r = nat_le r.first code && nat_le code r.last
 
 -- the name that the first range with the code gives it
 unfoldable pub name_in : List CodeRange → ℕ → Option FormatName

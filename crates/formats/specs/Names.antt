@@ -1,9 +1,10 @@
 -- What a format is called, and which names stand for a format.
-use Rattle.std.specs.Prelude.{cond, Some, None, Option}
+use Rattle.std.specs.Prelude.{◌≡◌, cond, Some, None, Option, Result, MatchResult}
 use Rattle.formats.specs.declared.kinds.Format.{Format}
 use Rattle.formats.specs.declared.kinds.Format.TheVariants as format
 use Rattle.formats.specs.declared.kinds.FormatName.{FormatName}
 use Rattle.formats.specs.declared.kinds.FormatName.TheVariants.{Linear, Paired, Block}
+use Rattle.formats.specs.declared.names.NoSuchSize.{NoSuchSize}
 use Rattle.formats.specs.Sizes.{is_pixel_size, is_block_size}
 
 -- a format is wholly known by its name
@@ -21,3 +22,7 @@ admitted (Block bytes) = cond (is_block_size bytes) (Some (Block bytes)) None
 abbrev pub admitted_of : Option FormatName → Option FormatName
 admitted_of None = None
 admitted_of (Some name) = admitted name
+
+-- a name read as a format: that format's name is the one that was read; or an error that has it, where it is not admitted
+abbrev pub Reads : FormatName → Result Format NoSuchSize → Type 0
+Reads name r = MatchResult r (λ f. Some (name_of f) ≡ admitted name) (λ e. (None ≡ admitted name) × (e.0 ≡ name))

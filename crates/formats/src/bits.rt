@@ -25,7 +25,7 @@ pub fn bit_count_format(pixel_flags: u32, bit_count: u32) -> Option<Format>
         || pixel_flags & YUV != 0
         || pixel_flags & LUMINANCE != 0;
     match bit_count {
-        8 | 16 | 24 | 32 if plain => Some(Format::Linear(Linear::new(bit_count)?)),
+        8 | 16 | 24 | 32 if plain => Linear::new(bit_count).map(Format::Linear),
         _ => None,
     }
 }

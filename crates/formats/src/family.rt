@@ -10,18 +10,11 @@ ghost use Rattle.formats.specs.declared.kinds.Format.TheVariants.{Linear, Paired
 use crate::kinds::{Block, Format, Linear, Paired};
 
 // What an image takes in the file: rows one after the other, each of so many bytes.
-#[derive(Clone, Copy, PartialEq, Eq, Debug)]
+// Of an image with a side out of range it is the default: nothing.
+#[derive(Clone, Copy, PartialEq, Eq, Debug, Default)]
 pub struct Extent {
     pub row_bytes: u32,
     pub rows: u32,
-}
-
-impl Extent {
-    // Of an image with a side out of range.
-    const NONE: Extent = Extent {
-        row_bytes: 0,
-        rows: 0,
-    };
 }
 
 // A way to lay an image out, known by two functions of its width and height: the bytes of a row and the number of rows.
@@ -38,10 +31,11 @@ pub trait Family {
     ghost bounded: { (family : Self) (width height : ℕ) → 1 ≤ width → width ≤ 16384 → 1 ≤ height → height ≤ 16384 → Bounded (row_bytes family) (rows family) width height };
 }
 
+// Each family asks it of both sides itself: a closure with the rest, under one guard, would have to require the same again.
 fn is_side(side: u32) -> bool
     ensures { result ≡ is_side side }
 {
-    side >= 1 && side <= 16384
+    (1..=16384).contains(&side)
 }
 
 impl Family for Linear {
@@ -53,7 +47,7 @@ impl Family for Linear {
 
     fn ask(&self, width: u32, height: u32) -> Extent {
         if !is_side(width) || !is_side(height) {
-            return Extent::NONE;
+            return Extent::default();
         }
         Extent {
             row_bytes: (width * self.bits() + 7) / 8,
@@ -71,7 +65,7 @@ impl Family for Paired {
 
     fn ask(&self, width: u32, height: u32) -> Extent {
         if !is_side(width) || !is_side(height) {
-            return Extent::NONE;
+            return Extent::default();
         }
         Extent {
             row_bytes: (width + 1) / 2 * 4,
@@ -89,7 +83,7 @@ impl Family for Block {
 
     fn ask(&self, width: u32, height: u32) -> Extent {
         if !is_side(width) || !is_side(height) {
-            return Extent::NONE;
+            return Extent::default();
         }
         let row_bytes = (width + 3) / 4 * self.bytes();
         let rows = (height + 3) / 4;

@@ -42,7 +42,7 @@ impl Linear {
     pub fn new(bits: u32) -> Option<Linear>
         ensures { MatchOption result (is_pixel_size bits ≡ false) (λ f. (is_pixel_size bits ≡ true) × (f.bits ≡ bits)) }
     {
-        if bits == 1 || bits % 8 == 0 && bits >= 8 && bits <= 128 {
+        if bits == 1 || bits % 8 == 0 && (8..=128).contains(&bits) {
             Some(Linear { bits })
         } else {
             None

@@ -19,3 +19,4 @@ pub use codes::{BuiltInCodes, CodeTable};
 pub use dxgi::dxgi_format;
 pub use family::{Extent, Family};
 pub use kinds::{Block, Format, FormatName, Linear, Paired};
+pub use names::NoSuchSize;

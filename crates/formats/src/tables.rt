@@ -1,9 +1,9 @@
 // Tables that give codes a format, and how one is looked up.
-ghost use Rattle.std.specs.Prelude.{◌≡◌, map};
+ghost use Rattle.std.specs.Prelude.{◌≡◌, map, find};
 ghost use Rattle.formats.specs.declared.tables.CodeRange.{CodeRange};
 ghost use Rattle.std.specs.Option.{option_map};
 ghost use Rattle.formats.specs.Names.{name_of, admitted_of};
-ghost use Rattle.formats.specs.Codes.{name_in};
+ghost use Rattle.formats.specs.Codes.{name_in, has_code};
 
 use crate::kinds::{Format, FormatName};
 
@@ -22,7 +22,8 @@ pub struct CodeRow {
     pub name: FormatName,
 }
 
-// A line of a table: it gives a range of codes a format.
+// A line of a table: it gives a range of codes a format. `Into<CodeRange>` would not do: its ghost member is a relation, and what a
+// whole table means is a function of its lines.
 pub trait Line {
     ghost means: { Self → CodeRange };
 
@@ -51,21 +52,20 @@ impl Line for CodeRow {
 }
 
 // The format that a table gives a code, if any.
+#[tactic(auto, using(crate::proofs::Named::name_found))]
 pub(crate) fn format_in<L: Line>(lines: &[L], code: u32) -> Option<Format>
     ensures { option_map name_of result ≡ admitted_of (name_in (map L.means lines.now) code) }
 {
-    Format::named(find(lines, code)?)
+    let range = range_of(lines, code)?;
+    Format::try_from(range.name).ok()
 }
 
-// The name that the first line with the code gives it, if any.
-fn find<L: Line>(lines: &[L], code: u32) -> Option<FormatName>
-    ensures { result ≡ name_in (map L.means lines.now) code }
+// The first line's range that has the code, if any.
+fn range_of<L: Line>(lines: &[L], code: u32) -> Option<CodeRange>
+    ensures { result ≡ find (has_code code) (map L.means lines.now) }
 {
-    for line in lines {
-        let range = line.range();
-        if range.first <= code && code <= range.last {
-            return Some(range.name);
-        }
-    }
-    None
+    lines
+        .iter()
+        .map(|line| line.range())
+        .find(|range| (range.first..=range.last).contains(&code))
 }

@@ -9,23 +9,15 @@ use std::process::Abort;
 use std::test::Fail;
 
 fn name_of(format: Option<Format>) -> Option<FormatName> {
-    match format {
-        Some(format) => Some(format.name()),
-        None => None,
-    }
+    format.map(FormatName::from)
 }
 
 fn check_sizes(rt: &impl Abort, sizes: &Sizes) -> Result<(), Fail> {
-    let Some(format) = Format::named(sizes.name) else {
-        return Err(Fail::new("a size of the rules is refused"));
-    };
+    let format = Format::try_from(sizes.name)?;
     for (width, row_bytes) in SIDES.iter().zip(sizes.row_bytes.iter()) {
         for (height, rows) in SIDES.iter().zip(sizes.rows.iter()) {
             let expected = if *row_bytes == 0 || *rows == 0 {
-                Extent {
-                    row_bytes: 0,
-                    rows: 0,
-                }
+                Extent::default()
             } else {
                 Extent {
                     row_bytes: *row_bytes,
@@ -48,12 +40,10 @@ fn every_format_at_every_side(rt: HostRuntime) -> Result<(), Fail> {
 
 #[test]
 fn every_dxgi_code(rt: HostRuntime) {
-    let mut code = 0u32;
-    for expected in &DXGI {
+    assert_eq!(rt; DXGI.len(), 131);
+    for (code, expected) in (0..).zip(&DXGI) {
         assert_eq!(rt; name_of(dxgi_format(code)), *expected);
-        code = code.saturating_add(1);
     }
-    assert_eq!(rt; code, 131);
     assert_eq!(rt; name_of(dxgi_format(u32::MAX)), None);
 }
 

@@ -6,6 +6,7 @@ ghost use Rattle.std.specs.Prelude.{◌≡◌, Some};
 ghost use Rattle.refusal.specs.Numbers.{number_of, EachNumberIsOneRefusal};
 ghost use Rattle.refusal.specs.Meanings.{meaning_of, refusal_text};
 
+use std::error::Error;
 use std::fmt;
 
 #[derive(Clone, Copy, PartialEq, Eq, Debug)]
@@ -94,3 +95,5 @@ impl fmt::Display for Refusal {
         write!(f, "refusal {number}: {meaning}")
     }
 }
+
+impl Error for Refusal {}

@@ -1,9 +1,9 @@
 -- Runs of a list within its first elements: what a shelf's memory gives for its contents.
-use Rattle.std.proofs.Common.{◌≡◌, ℕ, ◌+◌, ◌-◌, ◌≤◌, List, ◌++◌, length, get_or, take, drop, ap, ◌∙◌, add-zero, arith, rules}
+use Rattle.std.proofs.Common.{◌≡◌, ℕ, ◌+◌, ◌-◌, ◌≤◌, List, ◌++◌, length, take, drop, ap, ◌∙◌, arith, rules}
 use lib.Seq.{paste}
-use Rattle.std.proofs.lemmas.List.{get_or-take, get_or-drop, take_all, take-take, drop-take, same_lists, places}
+use Rattle.std.proofs.lemmas.List.{take-take, drop-take, same_lists, places}
 use Rattle.std.proofs.lemmas.List.Edits.{take-paste}
-use Rattle.shelf.specs.Calls.{without_run, slid_down}
+use Rattle.shelf.specs.Calls.{slid_down}
 
 module _ {X : Type 0} where
   -- a run within the first elements is the memory's
@@ -18,15 +18,6 @@ module _ {X : Type 0} where
       let first : take number (take rest (drop position xs)) ≡ take number (drop position xs) = take-take number rest (drop position xs) fewer in
       cc
 
-  -- the first element of a run is the one at the run's position
-  pub first_of_run : (xs run : List X) (position number : ℕ) (x : X) → 1 ≤ number → run ≡ take number (drop position xs) → x ≡ get_or run 0 x
-      → x ≡ get_or xs position x
-  first_of_run xs run position number x some is first =
-      let taken : get_or (take number (drop position xs)) 0 x ≡ get_or (drop position xs) 0 x = get_or-take number (drop position xs) 0 x some in
-      let dropped : get_or (drop position xs) 0 x ≡ get_or xs (position + 0) x = get_or-drop position xs 0 x in
-      let same : position + 0 ≡ position = add-zero position in
-      cc
-
   -- a copy of a run downwards in the memory moves it in the first elements
   pub slid_within : (xs : List X) (count from number to : ℕ) → to ≤ from → from + number ≤ count → count ≤ length xs
       → take count (paste xs to (drop from xs) (from + number - from)) ≡ slid_down from number to (take count xs)
@@ -35,21 +26,6 @@ module _ {X : Type 0} where
       let slid : take count (paste xs to (drop from xs) number) ≡ slid_down from number to (take count xs)
       = same_lists _ _ (search (rules, places)) (λ k d h. grind (arith, places)) in
       ap (λ n. take count (paste xs to (drop from xs) n)) same ∙ slid
-
-  -- what stands behind a run, slid down to its position, and the rest cut off
-  pub gap_closed : (xs : List X) (count position number : ℕ) → length xs ≡ count → position + number ≤ count
-      → take (count - number) (slid_down (position + number) (count - (position + number)) position xs) ≡ without_run position number xs
-  gap_closed xs count position number counted inside =
-      let end : ℕ = position + number in
-      let rest : ℕ = count - end in
-      let left : count - number ≡ position + rest = omega arith in
-      let start : position ≤ length xs = omega arith in
-      let fewer : rest ≤ length (drop end xs) = search (rules, places) in
-      let all : length (drop end xs) ≤ rest = search (rules, places) in
-      let cut : take (position + rest) (paste xs position (drop end xs) rest) ≡ take position xs ++ take rest (drop end xs)
-      = take-paste xs position (drop end xs) rest start fewer in
-      let whole : take rest (drop end xs) ≡ drop end xs = take_all rest (drop end xs) all in
-      cc
 
   -- a run slid down stands behind what is below it
   pub slid_front : (xs : List X) (from number to : ℕ) → to ≤ from → from + number ≤ length xs

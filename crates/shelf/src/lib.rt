@@ -15,7 +15,8 @@ mod tests;
 const MOST: usize = 1_073_741_824;
 
 // Holds the first `count` elements of the memory; what stands past them is nobody's. What it holds is defined for any
-// count, also one past the capacity, so that no shelf is out of line.
+// count, also one past the capacity, so that no shelf is out of line. So `Bounded` holds of each by the definitions alone, and
+// no ghost field could say it of the whole shelf: the calls that read one tell it to their callers.
 #[derive(Drop)]
 pub struct Shelf<'a, T> {
     memory: &'a mut [T],
@@ -24,6 +25,7 @@ pub struct Shelf<'a, T> {
 
 impl<'a, T: Copy> Shelf<'a, T> {
     // A shelf that holds none.
+    #[tactic(auto, unfolding(crate::specs::Model::capacity_of, crate::specs::Model::count_of, crate::specs::Model::contents))]
     pub fn new(memory: &'a mut [T]) -> Shelf<'a, T>
         ensures { New memory.old result }
     {
@@ -31,6 +33,7 @@ impl<'a, T: Copy> Shelf<'a, T> {
     }
 
     // How many elements it can hold.
+    #[tactic(auto, unfolding(crate::specs::Model::capacity_of))]
     pub fn capacity(&self) -> usize
         ensures value { result ≡ capacity_of self.now }
         ensures bounded { Bounded self.now }
@@ -39,6 +42,7 @@ impl<'a, T: Copy> Shelf<'a, T> {
     }
 
     // How many elements it holds.
+    #[tactic(auto, unfolding(crate::specs::Model::count_of))]
     pub fn count(&self) -> usize
         ensures value { result ≡ count_of self.now }
         ensures bounded { Bounded self.now }
@@ -55,6 +59,7 @@ impl<'a, T: Copy> Shelf<'a, T> {
     }
 
     // Its elements, lent for reading.
+    #[tactic(auto, unfolding(crate::specs::Model::contents))]
     pub fn elements(&self) -> &[T]
         ensures value { result.now ≡ contents self.now }
         ensures bounded { Bounded self.now }
@@ -101,6 +106,7 @@ impl<'a, T: Copy> Shelf<'a, T> {
     }
 
     // The run of `number` elements at `position`, lent for reading. Refuses with PastCount.
+    #[tactic(auto, using(crate::proofs::Runs::run_within), unfolding(crate::specs::Model::contents))]
     pub fn part(&self, position: usize, number: usize) -> Result<&[T], Refusal>
         ensures { Part self.now position number result }
     {

@@ -38,19 +38,11 @@ fn answer_to(call: Call<'_>, shelf: &mut Shelf<'_, u8>) -> Result<usize, Refusal
     }
 }
 
-// The shelf holds exactly these elements.
-fn holds(shelf: &Shelf<'_, u8>, contents: &[u8]) -> bool {
-    match shelf.part(0, shelf.count()) {
-        Ok(part) => part == contents,
-        Err(_) => false,
-    }
-}
-
 fn run(rt: &impl Abort, memory: &mut [u8], steps: &[Step<'_>]) -> Result<(), Fail> {
     let mut shelf = Shelf::new(memory);
     for (call, answer, contents) in steps {
         assert_eq!(rt; answer_to(*call, &mut shelf), *answer);
-        assert!(rt; holds(&shelf, contents));
+        assert_eq!(rt; shelf.part(0, shelf.count()), Ok(*contents));
     }
     Ok(())
 }
