@@ -1,4 +1,4 @@
-use Rattle.std.proofs.Common.{◌≡◌, ℕ, ◌<◌, replicate, drop, suc, refl, ap, ◌∙◌, add-one, arith}
+use Rattle.std.proofs.Common.{◌≡◌, ℕ, ◌<◌, replicate, drop, suc, ap, ◌∙◌, add-one, arith}
 use Rattle.std.proofs.lemmas.List.{length-take-le, length-append, length-drop}
 use Rattle.formats.specs.Extents.{extent_of}
 use Rattle.dds.specs.declared.table.Sides.{Sides}
@@ -6,7 +6,7 @@ use Rattle.dds.specs.Levels.{side_at}
 use Rattle.dds.specs.Plans.{size_at, begin_at}
 use Rattle.dds.specs.LevelEnds.{level_end}
 use Rattle.dds.specs.Tables.{InRange, sides_at, level_at, level_with, blank}
-use Rattle.dds.proofs.Begins.{level_is, begin_few, sides_first, sides_step}
+use Rattle.dds.proofs.Begins.{level_is, begin_few, sides_step}
 use Rattle.dds.proofs.Written.{one_more, written}
 use Rattle.dds.proofs.filling.chain_of.Goals as goal
 
@@ -18,9 +18,6 @@ wrote row_bytes rows first sides start k r s b =
     ap (λ (x : Sides). level_with (extent_of row_bytes rows x.width x.height) x start) s
     ∙ ap (λ n. level_with (extent_of row_bytes rows (side_at first.width k) (side_at first.height k)) (sides_at first k) n) b
     ∙ level_is row_bytes rows first r k
-
-pub loop-level-init : goal.loop-level-init
-loop-level-init g c = (sides_first c.args.first c.requires.0, refl, λ j h. absurd (omega arith))
 
 pub end-begin-requires : goal.end-begin-requires
 end-begin-requires g c =

@@ -1,9 +1,6 @@
 use Rattle.dds.proofs.Numbering.{per_some, piece_found, piece_none, rest_below}
 use Rattle.dds.proofs.layout.Layout.piece_number.Goals as goal
 
-pub nonzero_div-element : goal.nonzero_div-element
-nonzero_div-element c = per_some c.args.self.now c.pieces_per_element-pieces.result c.pieces_per_element-pieces.ensures
-
 pub nonzero_rem-number : goal.nonzero_rem-number
 nonzero_rem-number c = per_some c.args.self.now c.pieces_per_element-pieces.result c.pieces_per_element-pieces.ensures
 
