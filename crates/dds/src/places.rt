@@ -80,7 +80,7 @@ impl Layout {
     }
 
     // The piece that has the byte at a place, and the byte's offset in it; none where the byte is of no piece, as in the header.
-    // One division finds the element, at most one step a level its level. Refuses with PastFileEnd.
+    // One division finds the element, a search among its levels the level. Refuses with PastFileEnd.
     pub fn piece_at(&self, place: u64) -> Result<Option<(Piece, u32)>, Refusal>
         ensures value { WhoseIs self.now place result }
         ensures tiled { Tiled self.now }

@@ -1,4 +1,5 @@
-// Where the last piece of a file ends, found by walking over the pieces.
+// Where the last piece of a file ends, found by walking over the pieces: two steps that hand over to each other, the form that
+// docs/ARCHITECTURE.md gives the walk.
 ghost use Rattle.std.specs.Prelude.{◌≡◌, ◌+◌, ◌*◌, ◌^◌, ◌<◌};
 ghost use Rattle.dds.specs.LevelEnds.{total_of};
 
