@@ -2,7 +2,6 @@
 use Rattle.std.proofs.Common.{◌≡◌, ℕ, ◌+◌, ◌-◌, ◌<◌, ◌≤◌, Bool, true, List, [], ◌∷◌, ◌++◌, map, length, get_or, take, Ok, Err, Option, Result, sym, refl, ap, ◌∙◌, subst, ap₂, append_assoc, append-nil, arith, take_all}
 use Rattle.std.proofs.lemmas.List.{take_more, take-map, map_push}
 use Rattle.refusal.specs.declared.Refusal.{Refusal}
-use Rattle.loans.specs.declared.call.Answer.{Answer}
 use Rattle.loans.specs.declared.call.Call.{Call}
 use Rattle.loans.specs.declared.job.Job.{Job}
 use Rattle.loans.specs.declared.mark.Shelves.{Shelves}
@@ -10,12 +9,12 @@ use Rattle.loans.specs.Stocks.{are_ours}
 use Rattle.loans.specs.Strokes.{State, state_of}
 use Rattle.loans.specs.Rules.{Deed, deed_of, carried_out, number_for, reply, left, answer_to, after, answers_to, after_all}
 use Rattle.loans.specs.Calls.{Called}
-use Rattle.loans.specs.Runs.{answer_with, OursAlong, AllDone}
+use Rattle.loans.specs.Runs.{OursAlong, AllDone}
 use Rattle.loans.proofs.Calls.{after_all_push, answers_to_push}
 
 -- a call that keeps its promise answers and leaves what the rules say
 pub called_answer : (d : Deed) (j j' : Job) (f f' : List ℕ) (v v' : Shelves) (r : Result ℕ Refusal) → Called d j f v r j' f' v'
-    → answer_with r ≡ answer_to (state_of j f v) d
+    → r ≡ answer_to (state_of j f v) d
 called_answer d j j' f f' v v' (Ok n) c =
     sym (ap₂ (λ (e : Option Refusal) (k : ℕ). reply e k) c.none (sym c.answer))
 called_answer d j j' f f' v v' (Err e) c = sym (ap (λ (x : Option Refusal). reply x (number_for (carried_out (state_of j f v) d) d)) c.0)
@@ -28,15 +27,15 @@ called_state d j j' f f' v v' (Err e) c =
     (λ i. state_of (c.1 i) (c.2 i) (c.3 i)) ∙ sym (ap (λ (x : Option Refusal). left x (state_of j f v) (carried_out (state_of j f v) d)) c.0)
 
 -- after the first i calls
-pub record Along (s₀ s : State) (cs : List Call) (i : ℕ) (old items : List Answer) (len cap : ℕ) : Type 0 where
+pub record Along (s₀ s : State) (cs : List Call) (i : ℕ) (old items : List (Result ℕ Refusal)) (len cap : ℕ) : Type 0 where
   pub state : s ≡ after_all s₀ (map deed_of (take i cs))
   pub answers : items ≡ old ++ answers_to s₀ (map deed_of (take i cs))
   pub room : len + (length cs - i) ≤ cap
 
-pub along_none : (s : State) (cs : List Call) (old : List Answer) (len cap : ℕ) → len + length cs ≤ cap → Along s s cs 0 old old len cap
+pub along_none : (s : State) (cs : List Call) (old : List (Result ℕ Refusal)) (len cap : ℕ) → len + length cs ≤ cap → Along s s cs 0 old old len cap
 along_none s cs old len cap room = record { state = refl; answers = sym (append-nil old); room = omega arith }
 
-module _ (s₀ s : State) (cs : List Call) (i : ℕ) (old items : List Answer) (len cap : ℕ) (a : Along s₀ s cs i old items len cap) where
+module _ (s₀ s : State) (cs : List Call) (i : ℕ) (old items : List (Result ℕ Refusal)) (len cap : ℕ) (a : Along s₀ s cs i old items len cap) where
   pub along_ours : (known : Bool) → OursAlong known s₀ (map deed_of cs) → known ≡ true → are_ours s.book s.stock ≡ true
   along_ours known ours e =
       subst (λ (x : State). are_ours x.book x.stock ≡ true) (ap (after_all s₀) (take-map deed_of i cs) ∙ sym a.state) (ours e i)
@@ -49,7 +48,7 @@ module _ (s₀ s : State) (cs : List Call) (i : ℕ) (old items : List Answer) (
         state = a.state ∙ ap (λ (xs : List Call). after_all s₀ (map deed_of xs)) all;
       }
 
-  pub along_one : i < length cs → (d : Call) (t : State) (answer : Answer) (items' : List Answer) (len' cap' : ℕ)
+  pub along_one : i < length cs → (d : Call) (t : State) (answer : Result ℕ Refusal) (items' : List (Result ℕ Refusal)) (len' cap' : ℕ)
       → answer ≡ answer_to s (deed_of (get_or cs i d)) → t ≡ after s (deed_of (get_or cs i d)) → items' ≡ items ++ answer ∷ []
       → len' ≡ len + 1 → cap' ≡ cap → Along s₀ t cs (i + 1) old items' len' cap'
   along_one h d t answer items' len' cap' answers state pushed longer same =
@@ -61,8 +60,8 @@ module _ (s₀ s : State) (cs : List Call) (i : ℕ) (old items : List Answer) (
             state ∙ ap (λ (x : State). after x (deed_of (get_or cs i d))) a.state
             ∙ sym (ap (after_all s₀) one ∙ after_all_push s₀ before (deed_of (get_or cs i d)));
         answers =
-            pushed ∙ ap₂ (λ (xs : List Answer) (x : Answer). xs ++ x ∷ []) a.answers answer-is
+            pushed ∙ ap₂ (λ (xs : List (Result ℕ Refusal)) (x : Result ℕ Refusal). xs ++ x ∷ []) a.answers answer-is
             ∙ append_assoc old (answers_to s₀ before) (answer_to (after_all s₀ before) (deed_of (get_or cs i d)) ∷ [])
-            ∙ sym (ap (λ (ds : List Deed). old ++ answers_to s₀ ds) one ∙ ap (λ (xs : List Answer). old ++ xs) (answers_to_push s₀ before (deed_of (get_or cs i d))));
+            ∙ sym (ap (λ (ds : List Deed). old ++ answers_to s₀ ds) one ∙ ap (λ (xs : List (Result ℕ Refusal)). old ++ xs) (answers_to_push s₀ before (deed_of (get_or cs i d))));
         room = omega (arith, a.room, longer, same);
       }

@@ -3,18 +3,21 @@ use Rattle.std.proofs.Common.{◌≡◌, ℕ, suc, ◌+◌, ◌-◌, ◌*◌, �
 use Rattle.std.proofs.lemmas.List.{get_or-take, get_or-drop, get_or_append_left, get_or-append_right}
 use Rattle.std.proofs.lemmas.Bool.{cases_lt, cond-false, eqb-true, eqb-false, eq-eqb, ne_eqb, and_parts}
 use Rattle.shelf.proofs.Runs.{slid_front}
+use Rattle.loans.specs.declared.ending.Ending.{Ending}
+use Rattle.loans.specs.declared.ending.Ending.TheVariants.{Kept, Cancelled}
 use Rattle.loans.specs.declared.ledger.Ledger.{Ledger}
 use Rattle.loans.specs.declared.ledger.Loan.{Loan}
 use Rattle.loans.specs.declared.mark.Mark.{Mark}
-use Rattle.loans.specs.Lists.{some_of, less_all}
+use Rattle.loans.specs.Lists.{less_all}
 use Rattle.loans.specs.Books.{Balanced, Inside, Given, Rising, outs, no_loan}
 use Rattle.loans.specs.Stocks.{is_number, of_loan, marks_of, all_counted}
 use Rattle.loans.specs.Strokes.{counted_loan}
 use Rattle.loans.specs.Finding.{StandsAt}
 use Rattle.loans.specs.Tallies.{Distinct}
-use Rattle.loans.specs.Writing.{ledger_ended}
-use Rattle.loans.proofs.Recounting.{Ready, other_number}
+use Rattle.loans.specs.Writing.{kept_by, cancelled_by, ledger_ended}
+use Rattle.loans.proofs.Recounting.{other_number}
 use Rattle.loans.proofs.Searches.{less_at}
+use Rattle.loans.proofs.Slots.{none_has}
 use Rattle.loans.proofs.Sifted.{length_slid}
 
 -- the marks of other loans stay
@@ -43,12 +46,6 @@ recount_less (l ∷ ls) n ms h = go (eqb n l.number) refl (recount_less ls n ms 
         let strokes : marks_of l.number (less_all (of_loan n) ms) ≡ l.strokes =
         others_stay n l.number ms other ∙ sym (eqb-true l.strokes (marks_of l.number ms) (and_parts (eqb l.strokes (marks_of l.number ms)) (all_counted ls ms) h).0) in
         λ i. record { number = l.number; borrower = l.borrower; piece = l.piece; area = l.area; strokes = strokes i } ∷ r i
-
--- none of the loans has the number, where none at any position has
-pub none_has : (ls : List Loan) (n : ℕ) → ((j : ℕ) → j < length ls → (get_or ls j no_loan).number ≢ n) → some_of (is_number n) ls ≡ false
-none_has [] n h = refl
-none_has (l ∷ ls) n h =
-    cond-false (is_number n l) _ _ (ne_eqb n l.number (λ e. h 0 (omega arith) (sym e))) ∙ none_has ls n (λ j f. h (suc j) (omega arith))
 
 -- the loans without the one at a position
 pub less_here : (ls : List Loan) (n k : ℕ) → Distinct ls → StandsAt ls n k → less_all (is_number n) ls ≡ take k ls ++ drop (k + 1) ls
@@ -149,11 +146,7 @@ module _ (l : Ledger) (b : Balanced l) (k more less m y : ℕ) (out : k < l.out)
       Less : Loan → Loan → Type 0
       Less x y = x.number < y.number
 
-pub ended_ready : (a : ℕ) (l r : Ledger) (k more less m y : ℕ) → Ready a l → k < l.out → more + less ≡ 1 → r ≡ ledger_ended l k more less m y → Ready a r
-ended_ready a l r k more less m y ready out one is =
-    subst (Ready a) (sym is) (record {
-      balanced = ended_balanced l ready.balanced k more less m y out one;
-      inside = ended_inside l ready.balanced k more less m y out a ready.inside;
-      given = ended_given l ready.balanced k more less m y out ready.given;
-      rising = ended_rising l ready.balanced k more less m y out ready.rising;
-    })
+-- each ending counts one loan
+pub counts_one : (e : Ending) → kept_by e + cancelled_by e ≡ 1
+counts_one Kept = refl
+counts_one Cancelled = refl

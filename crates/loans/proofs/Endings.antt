@@ -21,15 +21,14 @@ use Rattle.loans.proofs.Allowed.{ours}
 use Rattle.loans.proofs.Ended.{ended_outs, less_here, recount_less}
 
 -- the steps of a keep or a cancel: what they left, and what each is
-pub record EndSteps (s t : Job) (v w : Shelves) (n k more less answer : ℕ) : Type 0 where
+pub record EndSteps (s t : Job) (v w : Shelves) (n k more less : ℕ) : Type 0 where
   pub loan : StandsAt (outs s.ledger) n k
   pub ours : are_ours (book_of s) (stock_of v) ≡ true
   pub shelves : stock_of w ≡ stock_without (stock_of v) n
   pub layout : t.layout ≡ s.layout
   pub ledger : t.ledger ≡ ledger_ended s.ledger k more less (length (stock_of w).marks) (length (stock_of w).bytes)
-  pub out : answer ≡ t.ledger.out
 
-module _ {s t : Job} {v w : Shelves} {n k more less answer : ℕ} (x : EndSteps s t v w n k more less answer) where
+module _ {s t : Job} {v w : Shelves} {n k more less : ℕ} (x : EndSteps s t v w n k more less) where
   abbrev left : Stock
   left = stock_without (stock_of v) n
 
@@ -54,20 +53,20 @@ module _ {s t : Job} {v w : Shelves} {n k more less answer : ℕ} (x : EndSteps 
     bytes = (ap (λ (l : Ledger). l.bytes) x.ledger ∙ ap (λ (y : Stock). length y.bytes) x.shelves) i;
   }
 
-  ended_answer : answer ≡ length (recounted (book_without (book_of s) n more less) left).outs
-  ended_answer = x.out ∙ sym (out_count t.ledger t.balanced) ∙ ap (λ (b : Book). length b.outs) ended_book
+  ended_answer : t.ledger.out ≡ length (recounted (book_without (book_of s) n more less) left).outs
+  ended_answer = sym (out_count t.ledger t.balanced) ∙ ap (λ (b : Book). length b.outs) ended_book
 
-pub keep_carried : {s t : Job} {v w : Shelves} {n k answer : ℕ} → EndSteps s t v w n k 1 0 answer → (f : List ℕ)
-    → Carried (keep n) (state_of s f v) answer (state_of t f w)
+pub keep_carried : {s t : Job} {v w : Shelves} {n k : ℕ} → EndSteps s t v w n k 1 0 → (f : List ℕ)
+    → Carried (keep n) (state_of s f v) t.ledger.out (state_of t f w)
 keep_carried {s = s} {v = v} {n = n} x f = record {
   none = cond-false (not (is_out (outs s.ledger) n)) _ _ (not_from_true _ x.loan.out) ∙ cond-false (not (are_ours (book_of s) (stock_of v))) _ _ (not_from_true _ x.ours);
   answer = ended_answer x;
   state = λ i. record { book = ended_book x i; file = f; stock = x.shelves i };
 }
 
-pub cancel_carried : {s t : Job} {v w : Shelves} {n k answer : ℕ} {f f' : List ℕ} → EndSteps s t v w n k 0 1 answer
+pub cancel_carried : {s t : Job} {v w : Shelves} {n k : ℕ} {f f' : List ℕ} → EndSteps s t v w n k 0 1
     → length f ≡ s.layout.table.length → f' ≡ restored n f (contents v.marks) (contents v.bytes)
-    → Carried (cancel n) (state_of s f v) answer (state_of t f' w)
+    → Carried (cancel n) (state_of s f v) t.ledger.out (state_of t f' w)
 cancel_carried {s = s} {v = v} {n = n} {f = f} x sized file = record {
   none =
       cond-false (is_other_length (state_of s f v)) _ _ (not_from_true _ (eq-eqb _ _ sized))

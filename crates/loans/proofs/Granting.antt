@@ -1,5 +1,6 @@
 -- What one loan more does to a ledger.
-use Rattle.std.proofs.Common.{◌≡◌, ℕ, ◌+◌, ◌*◌, ◌<◌, ◌≤◌, true, false, not, leb, ◌≢◌, [], ◌∷◌, ◌++◌, length, get_or, set, None, Ok, Err, Result, sym, ap, ◌∙◌, subst, ⊎_elim, add-one, arith, length-set, get_or-set_other, get_or-set_same, take-suc-set}
+use Rattle.std.proofs.Common.{◌≡◌, ℕ, ◌+◌, ◌*◌, ◌<◌, ◌≤◌, true, false, not, ◌||◌, leb, ◌≢◌, List, [], ◌∷◌, ◌++◌, length, get_or, set, None, Ok, Err, Result, sym, refl, ap, ◌∙◌, subst, ⊎_elim, add-one, arith, length-set, get_or-set_other, get_or-set_same, take-suc-set}
+use Rattle.std.specs.List.{list_any}
 use Rattle.std.proofs.lemmas.Bool.{cases_lt, cases_order, cases_Bool, cond-true, cond-false, not_from_true, lt-leb}
 use Rattle.refusal.specs.declared.Refusal.{Refusal}
 use Rattle.refusal.specs.declared.Refusal.TheVariants.{NoSuchPiece}
@@ -13,7 +14,7 @@ use Rattle.loans.specs.declared.ledger.Ledger.{Ledger}
 use Rattle.loans.specs.declared.ledger.Loan.{Loan}
 use Rattle.loans.specs.Books.{Balanced, Inside, Given, Rising, outs, no_loan}
 use Rattle.loans.specs.Jobs.{book_of}
-use Rattle.loans.specs.Lending.{ledger_with, loan_refusal, piece_is_out, Lent}
+use Rattle.loans.specs.Lending.{same_piece, ledger_with, loan_refusal, piece_is_out, Lent}
 use Rattle.loans.proofs.Counting.{out_count}
 
 -- a piece that is found exists, and its area is the table's
@@ -160,3 +161,8 @@ module _ {s : Job} {here there : Layout} {l r : Ledger} {p : Piece} {who : ℕ} 
           bytes = (is i).bytes;
         },
       )
+
+-- a piece is out where some loan has it
+pub outs_any : (p : Piece) (ls : List Loan) → list_any (λ (l : Loan). same_piece l.piece p) ls ≡ piece_is_out ls p
+outs_any p [] = refl
+outs_any p (l ∷ ls) = ap (λ b. same_piece l.piece p || b) (outs_any p ls)

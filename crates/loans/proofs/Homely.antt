@@ -1,10 +1,9 @@
 -- Where file and shelves are the job's own no call answers that they are another's.
-use Rattle.std.proofs.Common.{◌≡◌, ℕ, Bool, true, false, cond, not, eqb, leb, length, Some, None, Option, arith}
+use Rattle.std.proofs.Common.{◌≡◌, ℕ, Bool, true, false, cond, not, eqb, leb, length, Some, None, Err, Option, arith}
 use Rattle.std.proofs.lemmas.Bool.{not_from_true, true≢false}
 use Rattle.refusal.specs.declared.Refusal.{Refusal}
 use Rattle.refusal.specs.declared.Refusal.TheVariants.{OtherLength, ForeignShelves, NoSuchPiece, PieceOut, TooManyLoans, NumbersUsedUp, LoanNotOut, OtherBorrower, OutsideRow, NoSpace, NothingToUndo}
 use Rattle.dds.specs.Places.{exists_in}
-use Rattle.loans.specs.declared.call.Answer.TheVariants.{Refused}
 use Rattle.loans.specs.Lending.{piece_is_out}
 use Rattle.loans.specs.Stocks.{is_out, the_loan, marks_of, are_ours}
 use Rattle.loans.specs.Strokes.{State, is_other_length, is_outside_row, lacks_space}
@@ -86,6 +85,6 @@ module _ (s : State) (same : is_other_length s ≡ false) (ours : are_ours s.boo
       (homely_cond (not (is_out s.book.outs n)) _ _ is_loan_not_out
       (homely_false (not (are_ours s.book s.stock)) ForeignShelves _ not_foreign homely_none))
 
-pub reply_home : (r : Option Refusal) (n : ℕ) → Homely r → (reply r n ≡ Refused OtherLength → ⊥) × (reply r n ≡ Refused ForeignShelves → ⊥)
+pub reply_home : (r : Option Refusal) (n : ℕ) → Homely r → (reply r n ≡ Err OtherLength → ⊥) × (reply r n ≡ Err ForeignShelves → ⊥)
 reply_home None n h = (λ q. (let z : ◌≡◌ {A = ℕ} 0 1 = cc in absurd (omega arith)), λ q. (let z : ◌≡◌ {A = ℕ} 0 1 = cc in absurd (omega arith)))
 reply_home (Some d) n h = (λ q. h.0 (cc), λ q. h.1 (cc))

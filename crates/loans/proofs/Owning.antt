@@ -46,15 +46,13 @@ module _ (b : Book) (k : Stock) where
       and_true false = refl
 
 -- the steps of the test: what they read, and what each is
-pub owned : (s : Job) (v : Shelves) (l : Ledger) (ls ls' : List Loan) (ms : List Mark) (n : ℕ) (counts : List ℕ) (r : Bool)
-    → l ≡ s.ledger → ls ≡ outs l → ls' ≡ outs l → ms ≡ contents v.marks → n ≡ length (contents v.bytes)
-    → length ms ≡ l.marks → n ≡ l.bytes → Tally ls ms n counts → r ≡ agree ls' counts → r ≡ are_ours (book_of s) (stock_of v)
-owned s v l ls ls' ms n counts r ledger outs₁ outs₂ marks bytes same_marks same_bytes tally agrees =
-    let here : outs l ≡ outs s.ledger = ap outs ledger in
+pub owned : (s : Job) (v : Shelves) (ls ls' : List Loan) (ms : List Mark) (n : ℕ) (counts : List ℕ) (r : Bool)
+    → ls ≡ outs s.ledger → ls' ≡ outs s.ledger → ms ≡ contents v.marks → n ≡ length (contents v.bytes)
+    → length ms ≡ s.ledger.marks → n ≡ s.ledger.bytes → Tally ls ms n counts → r ≡ agree ls' counts → r ≡ are_ours (book_of s) (stock_of v)
+owned s v ls ls' ms n counts r outs₁ outs₂ marks bytes same_marks same_bytes tally agrees =
     let t : Tally (outs s.ledger) (contents v.marks) (length (contents v.bytes)) counts =
-    subst (λ (x : List Loan). Tally x (contents v.marks) (length (contents v.bytes)) counts) (outs₁ ∙ here)
+    subst (λ (x : List Loan). Tally x (contents v.marks) (length (contents v.bytes)) counts) outs₁
     (subst₂ (λ (x : List Mark) (y : ℕ). Tally ls x y counts) marks bytes tally) in
     let few : length (outs s.ledger) ≤ 32 = omega (arith, out_count s.ledger s.balanced, s.balanced.1) in
-    agrees ∙ ap (λ (x : List Loan). agree x counts) (outs₂ ∙ here)
-    ∙ tallied (book_of s) (stock_of v) (ap length (sym marks) ∙ same_marks ∙ ap (λ (x : Ledger). x.marks) ledger)
-    (sym bytes ∙ same_bytes ∙ ap (λ (x : Ledger). x.bytes) ledger) counts few t
+    agrees ∙ ap (λ (x : List Loan). agree x counts) outs₂
+    ∙ tallied (book_of s) (stock_of v) (ap length (sym marks) ∙ same_marks) (sym bytes ∙ same_bytes) counts few t

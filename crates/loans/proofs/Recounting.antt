@@ -111,19 +111,3 @@ module _ (l : Ledger) (b : Balanced l) (k n m y : ℕ) (out : k < l.out) where
 
   pub counted_rising : Rising l → Rising (ledger_counted l k n m y)
   counted_rising rising i j h f = subst₂ (λ (x y : Loan). x.number < y.number) (sym (same_loan i)) (sym (same_loan j)) (rising i j h f)
-
--- what a job asks of its ledger
-pub record Ready (a : ℕ) (l : Ledger) : Type 0 where
-  pub balanced : Balanced l
-  pub inside : Inside a l
-  pub given : Given l
-  pub rising : Rising l
-
-pub counted_ready : (a : ℕ) (l r : Ledger) (k n m y : ℕ) → Ready a l → k < l.out → r ≡ ledger_counted l k n m y → Ready a r
-counted_ready a l r k n m y ready out is =
-    subst (Ready a) (sym is) (record {
-      balanced = counted_balanced l ready.balanced k n m y out;
-      inside = counted_inside l ready.balanced k n m y out a ready.inside;
-      given = counted_given l ready.balanced k n m y out ready.given;
-      rising = counted_rising l ready.balanced k n m y out ready.rising;
-    })

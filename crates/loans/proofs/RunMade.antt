@@ -1,8 +1,10 @@
 -- What a run leaves, and that the law holds of it.
-use Rattle.std.proofs.Common.{◌≡◌, Bool, true, eqb, List, [], ◌++◌, length, take, Some, Ok, sym, refl, ap, ◌∙◌, subst}
+use Rattle.std.proofs.Common.{◌≡◌, ℕ, Bool, true, eqb, List, [], ◌++◌, length, take, Some, Ok, Result, sym, refl, ap, ◌∙◌, subst, ap₂, subst₂}
 use Rattle.std.proofs.lemmas.List.{nil_from_length}
 use Rattle.std.proofs.lemmas.Bool.{and_parts, eqb-true}
-use Rattle.loans.specs.declared.call.Answer.{Answer}
+use Rattle.refusal.specs.declared.Refusal.{Refusal}
+use Rattle.dds.specs.declared.layout.Layout.{Layout}
+use Rattle.dds.specs.Layouts.{Opened}
 use Rattle.loans.specs.declared.docket.Docket.{Docket}
 use Rattle.loans.specs.declared.job.Job.{Job}
 use Rattle.loans.specs.Jobs.{book_of, fresh_book}
@@ -16,12 +18,19 @@ use Rattle.loans.proofs.Calls.{answers_to_length}
 use Rattle.loans.proofs.Runs.{law_run, ours_run}
 
 -- what the opening of a run gave
-pub record OpenedJob (o : Ordered) (d : Docket) (t : Job) : Type 0 where
-  pub docket : d.number ≡ o.number
+pub record OpenedJob (o : Ordered) (t : Job) : Type 0 where
   pub opened : OpenedAs o (Ok t.layout)
   pub book : book_of t ≡ fresh_book t.layout.table (Some o.number)
 
-module _ (o : Ordered) (d : Docket) (t : Job) (x : OpenedJob o d t) where
+-- a job made of the layout that was read
+pub made_job : (o : Ordered) (t : Job) (y : Layout) (head : List ℕ) → head ≡ take 148 o.file → Opened head (length o.file) o.row_bytes o.rows (Ok y)
+    → t.layout ≡ y → book_of t ≡ fresh_book y.table (Some o.number) → OpenedJob o t
+made_job o t y head is opened layout book = record {
+  opened = subst₂ (λ (h : List ℕ) (x : Layout). Opened h (length o.file) o.row_bytes o.rows (Ok x)) is (sym layout) opened;
+  book = book ∙ ap (λ (x : Layout). fresh_book x.table (Some o.number)) (sym layout);
+}
+
+module _ (o : Ordered) (t : Job) (x : OpenedJob o t) where
   abbrev first : State
   first = opened_state t.layout.table o.number o.file (stock_of o.shelves)
 
@@ -41,15 +50,16 @@ module _ (o : Ordered) (d : Docket) (t : Job) (x : OpenedJob o d t) where
       subst (λ (s : State). are_ours (after_all s (take i o.calls)).book (after_all s (take i o.calls)).stock ≡ true) (sym first_is)
       (ours_run t.layout o.number o.file k (take i o.calls) sized marks bytes).0
 
-  pub run_made : (u : State) (new : List Answer) → AllDone o.calls (state_of t o.file o.shelves) o.old u new → RanSo o d u new
-  run_made u new done =
+  pub run_made : (d : Docket) → d.number ≡ o.number → (u : State) (old new : List (Result ℕ Refusal)) → old ≡ o.old
+      → AllDone o.calls (state_of t o.file o.shelves) old u new → RanSo o d u new
+  run_made d docket u old new same done =
       let is : u ≡ after_all first o.calls = done.state ∙ ap (λ (s : State). after_all s o.calls) first_is in
       record {
         layout = t.layout;
         opened = x.opened;
-        docket = x.docket;
+        docket = docket;
         given = answers_to first o.calls;
-        answers = done.answers ∙ ap (λ (s : State). o.old ++ answers_to s o.calls) first_is;
+        answers = done.answers ∙ ap₂ (λ (xs : List (Result ℕ Refusal)) (s : State). xs ++ answers_to s o.calls) same first_is;
         each = answers_to_length first o.calls;
         by_rules = refl;
         state = is;

@@ -21,7 +21,7 @@ use Rattle.loans.specs.Calls.{Called}
 use Rattle.loans.specs.Scrapping.{AtHome}
 use Rattle.loans.proofs.Allowed.{ours}
 use Rattle.loans.proofs.Counting.{out_count}
-use Rattle.loans.proofs.Slots.{out_here, loan_here}
+use Rattle.loans.proofs.Slots.{stands_first}
 use Rattle.loans.proofs.Owning.{outs_distinct}
 use Rattle.loans.proofs.Ended.{less_here}
 use Rattle.loans.proofs.Undone.{marks_in_file}
@@ -122,7 +122,7 @@ module _ (s₀ : State) (s : Job) (f : List ℕ) (v : Shelves) (c : Cancelling s
   inside = omega (arith, out_count s.ledger s.balanced)
 
   stands : StandsAt ls n 0
-  stands = record { inside = inside; out = out_here ls n 0 inside (sym first); number = sym first; found = loan_here ls n 0 inside (sym first) }
+  stands = stands_first ls n 0 inside (λ j h. absurd (omega arith)) (sym first)
 
   left_is : less_all (is_number n) ls ≡ drop 1 ls
   left_is = less_here ls n 0 (outs_distinct s.ledger s.balanced s.rising) stands

@@ -1,26 +1,48 @@
 -- Which loan has a number, and where it stands.
-use Rattle.std.proofs.Common.{◌≡◌, ℕ, ◌+◌, ◌<◌, true, cond, eqb, List, length, get_or, drop, sym, ◌∙◌}
-use Rattle.std.proofs.lemmas.List.{at_drop_more}
-use Rattle.std.proofs.lemmas.Bool.{cond-true, cond-false, eq-eqb, ne_eqb}
+use Rattle.std.proofs.Common.{◌≡◌, ℕ, suc, ◌<◌, ◌≤◌, Bool, false, cond, eqb, ltb, ◌≢◌, List, [], ◌∷◌, length, get_or, take, Some, None, Option, sym, refl, ◌∙◌, subst, ⊎_elim, arith, length-take-le}
+use Rattle.std.specs.List.{position_or_len}
+use Rattle.std.proofs.lemmas.List.{get_or-take}
+use Rattle.std.proofs.lemmas.List.Sums.{fails_before_first, passes_at_first}
+use Rattle.std.proofs.lemmas.Bool.{cases_lt, cond-true, cond-false, lt-ltb, le-ltb, eqb-true, eqb-false, eq-eqb, ne_eqb}
 use Rattle.loans.specs.declared.ledger.Loan.{Loan}
+use Rattle.loans.specs.Lists.{some_of}
 use Rattle.loans.specs.Books.{no_loan}
-use Rattle.loans.specs.Stocks.{is_out, the_loan}
+use Rattle.loans.specs.Stocks.{is_number}
+use Rattle.loans.specs.Finding.{StandsAt, Found}
+use Rattle.loans.proofs.Searches.{first_at}
 
-module _ (ls : List Loan) (n i : ℕ) (inside : i < length ls) where
-  out_step : is_out (drop i ls) n ≡ cond (eqb n (get_or ls i no_loan).number) true (is_out (drop (i + 1) ls) n)
-  out_step = at_drop_more (λ xs. is_out xs n) ls i no_loan inside
+-- none of the loans has the number, where none at any position has
+pub none_has : (ls : List Loan) (n : ℕ) → ((j : ℕ) → j < length ls → (get_or ls j no_loan).number ≢ n) → some_of (is_number n) ls ≡ false
+none_has [] n h = refl
+none_has (l ∷ ls) n h =
+    cond-false (is_number n l) _ _ (ne_eqb n l.number (λ e. h 0 (omega arith) (sym e))) ∙ none_has ls n (λ j f. h (suc j) (omega arith))
 
-  loan_step : the_loan (drop i ls) n ≡ cond (eqb n (get_or ls i no_loan).number) (get_or ls i no_loan) (the_loan (drop (i + 1) ls) n)
-  loan_step = at_drop_more (λ xs. the_loan xs n) ls i no_loan inside
+-- the first that has the number
+pub stands_first : (ls : List Loan) (n k : ℕ) → k < length ls → ((j : ℕ) → j < k → (get_or ls j no_loan).number ≢ n) → (get_or ls k no_loan).number ≡ n
+    → StandsAt ls n k
+stands_first ls n k inside before here =
+    let none = none_has (take k ls) n (λ j h. let h' : j < k = omega (arith, length-take-le k ls (omega arith)) in
+    subst (λ (x : Loan). x.number ≢ n) (sym (get_or-take k ls j no_loan h')) (before j h')) in
+    let first = first_at (is_number n) no_loan no_loan ls k inside none (eq-eqb n _ (sym here)) in
+    record { inside = inside; out = first.1; number = here; found = first.0 }
 
-  pub out_here : (get_or ls i no_loan).number ≡ n → is_out (drop i ls) n ≡ true
-  out_here e = out_step ∙ cond-true _ _ _ (eq-eqb n (get_or ls i no_loan).number (sym e))
+module _ (ls : List Loan) (n : ℕ) where
+  abbrev has : Loan → Bool
+  has l = eqb l.number n
 
-  pub loan_here : (get_or ls i no_loan).number ≡ n → the_loan (drop i ls) n ≡ get_or ls i no_loan
-  loan_here e = loan_step ∙ cond-true _ _ _ (eq-eqb n (get_or ls i no_loan).number (sym e))
+  abbrev k : ℕ
+  k = position_or_len has ls
 
-  pub out_past : ((get_or ls i no_loan).number ≡ n → ⊥) → is_out (drop i ls) n ≡ is_out (drop (i + 1) ls) n
-  out_past e = out_step ∙ cond-false _ _ _ (ne_eqb n (get_or ls i no_loan).number (λ f. e (sym f)))
+  before : (j : ℕ) → j < k → (get_or ls j no_loan).number ≢ n
+  before j h = eqb-false _ _ (fails_before_first has ls j no_loan h)
 
-  pub loan_past : ((get_or ls i no_loan).number ≡ n → ⊥) → the_loan (drop i ls) n ≡ the_loan (drop (i + 1) ls) n
-  loan_past e = loan_step ∙ cond-false _ _ _ (ne_eqb n (get_or ls i no_loan).number (λ f. e (sym f)))
+  -- what a search for the number answers
+  pub found_at : (r : Option ℕ) → r ≡ cond (ltb k (length ls)) (Some k) None → Found ls n r
+  found_at r e =
+      ⊎_elim
+      (λ (inside : k < length ls).
+      subst (Found ls n) (sym (e ∙ cond-true _ _ _ (lt-ltb k (length ls) inside)))
+      (stands_first ls n k inside before (eqb-true _ _ (passes_at_first has ls no_loan inside))))
+      (λ (past : length ls ≤ k).
+      subst (Found ls n) (sym (e ∙ cond-false _ _ _ (le-ltb k (length ls) past))) (none_has ls n (λ j h. before j (omega arith))))
+      (cases_lt k (length ls))

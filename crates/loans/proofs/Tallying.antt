@@ -1,6 +1,7 @@
 -- Counting the marks of all loans in one pass.
 use Rattle.std.proofs.Common.{◌≡◌, ℕ, zero, suc, ◌+◌, ◌<◌, ◌≤◌, Bool, true, false, cond, ◌&&◌, eqb, ◌≢◌, List, [], ◌∷◌, length, get_or, drop, set, sym, refl, ap, ◌∙◌, subst, ⊎_elim, arith, length-set, get_or-set_other, get_or-set_same}
-use Rattle.std.proofs.lemmas.List.{drop_more, at_drop_more, at_drop_all}
+use Rattle.std.specs.List.{list_all, zip}
+use Rattle.std.proofs.lemmas.List.{at_drop_more, at_drop_all}
 use Rattle.std.proofs.lemmas.Bool.{eqb-true, and_parts, cases_order, cond-true, cond-false, eq-eqb, ne_eqb, and_left, and_right}
 use Rattle.loans.specs.declared.ledger.Loan.{Loan}
 use Rattle.loans.specs.declared.mark.Mark.{Mark}
@@ -35,7 +36,7 @@ pub record Passed (ls : List Loan) (ms : List Mark) (n i left : ℕ) (counts : L
   pub size : length counts ≡ 32
   pub counted : (k : ℕ) → k < length ls → get_or counts k 0 + marks_of (get_or ls k no_loan).number (drop i ms) ≡ marks_of (get_or ls k no_loan).number ms
 
-module _ (ls : List Loan) (ms : List Mark) (n : ℕ) where
+module _ {ls : List Loan} {ms : List Mark} {n : ℕ} where
   pub passed_none : (counts : List ℕ) → length counts ≡ 32 → are_zero counts ≡ true → Passed ls ms n 0 n counts
   passed_none counts size zeros = record {
     sound = refl;
@@ -44,7 +45,7 @@ module _ (ls : List Loan) (ms : List Mark) (n : ℕ) where
     counted = λ k h. omega (arith, at_zero counts zeros k);
   }
 
-  module _ (i left : ℕ) (counts : List ℕ) (p : Passed ls ms n i left counts) where
+  module _ {i left : ℕ} {counts : List ℕ} (p : Passed ls ms n i left counts) where
     -- where all marks were passed and no byte is left
     pub passed_all : length ms ≤ i → left ≡ 0 → Tally ls ms n counts
     passed_all h z = record {
@@ -57,7 +58,7 @@ module _ (ls : List Loan) (ms : List Mark) (n : ℕ) where
     pub passed_more : length ms ≤ i → 0 < left → (all_sound ls ms && eqb (lengths ms) n) ≡ false
     passed_more h z = and_right (all_sound ls ms) _ (ne_eqb (lengths ms) n (λ e. omega (arith, p.covered, at_drop_all lengths ms i h)))
 
-    module _ (m : Mark) (inside : i < length ms) (here : get_or ms i no_mark ≡ m) where
+    module _ {m : Mark} (inside : i < length ms) (here : get_or ms i no_mark ≡ m) where
       sound_step : all_sound ls (drop i ms) ≡ (is_sound ls m && all_sound ls (drop (i + 1) ms))
       sound_step = at_drop_more (all_sound ls) ms i no_mark inside ∙ ap (λ x. is_sound ls x && all_sound ls (drop (i + 1) ms)) here
 
@@ -72,10 +73,10 @@ module _ (ls : List Loan) (ms : List Mark) (n : ℕ) where
       pub unsound : is_sound ls m ≡ false → (all_sound ls ms && eqb (lengths ms) n) ≡ false
       unsound e = and_left _ _ (sym p.sound ∙ sound_step ∙ and_left _ _ e)
 
-      pub too_long : left < m.length → (all_sound ls ms && eqb (lengths ms) n) ≡ false
-      too_long h = and_right (all_sound ls ms) _ (ne_eqb (lengths ms) n (λ e. omega (arith, p.covered, length_step)))
+      pub too_long : (m.length ≤ left → ⊥) → (all_sound ls ms && eqb (lengths ms) n) ≡ false
+      too_long h = and_right (all_sound ls ms) _ (ne_eqb (lengths ms) n (λ e. h (omega (arith, p.covered, length_step))))
 
-      module _ (k : ℕ) (distinct : Distinct ls) (at : StandsAt ls m.loan k) where
+      module _ {k : ℕ} (distinct : Distinct ls) (at : StandsAt ls m.loan k) where
         -- the count at a position after one mark of the loan at k
         other : (j : ℕ) → j < length ls → j ≢ k → (get_or ls j no_loan).number ≢ m.loan
         other j h ne e =
@@ -116,11 +117,11 @@ module _ (ls : List Loan) (ms : List Mark) (n : ℕ) where
               (cases_order j k);
         }
 
--- where the lists agree from a position on
-pub agree_step : (ls : List Loan) (cs : List ℕ) (i : ℕ) → i < length ls → length ls ≤ length cs
-    → agree (drop i ls) (drop i cs) ≡ (eqb (get_or ls i no_loan).strokes (get_or cs i 0) && agree (drop (i + 1) ls) (drop (i + 1) cs))
-agree_step ls cs i h few =
-    ap (λ xs. agree xs (drop i cs)) (drop_more ls i no_loan h) ∙ ap (λ xs. agree (get_or ls i no_loan ∷ drop (i + 1) ls) xs) (drop_more cs i 0 (omega arith))
+-- each loan agrees with its count
+pub agree_all : (ls : List Loan) (cs : List ℕ) → length ls ≤ length cs → list_all (λ (p : Loan × ℕ). eqb p.0.strokes p.1) (zip ls cs) ≡ agree ls cs
+agree_all [] cs few = refl
+agree_all (l ∷ ls) [] few = absurd (omega arith)
+agree_all (l ∷ ls) (c ∷ cs) few = ap (λ b. eqb l.strokes c && b) (agree_all ls cs (omega arith))
 
 -- counts that are a tally agree with the loans where each loan's strokes are its marks
 pub agree_counted : (ls : List Loan) (cs : List ℕ) (ms : List Mark) → length ls ≤ length cs

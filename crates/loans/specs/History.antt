@@ -1,11 +1,10 @@
 -- What was lent, what is out and which strokes stand, read off the calls and their answers alone. A history has its newest event first.
-use Rattle.std.specs.Prelude.{ℕ, ◌+◌, ◌-◌, Bool, cond, ◌&&◌, List, [], ◌∷◌, ◌++◌, map, reverse, length, Some, filter, ◌==◌, nat_le, nat_lt, slice_index}
+use Rattle.std.specs.Prelude.{ℕ, ◌+◌, ◌-◌, Bool, cond, ◌&&◌, List, [], ◌∷◌, ◌++◌, map, reverse, length, Some, Ok, Err, Result, filter, ◌==◌, nat_le, nat_lt, slice_index}
 use Rattle.std.specs.List.{range_with_len, flat_map}
+use Rattle.refusal.specs.declared.Refusal.{Refusal}
 use Rattle.dds.specs.declared.piece.Piece.{Piece}
 use Rattle.dds.specs.declared.table.Table.{Table}
 use Rattle.dds.specs.Places.{area_in}
-use Rattle.loans.specs.declared.call.Answer.{Answer}
-use Rattle.loans.specs.declared.call.Answer.TheVariants.{Done, Refused}
 use Rattle.loans.specs.declared.ledger.Loan.{Loan}
 use Rattle.loans.specs.declared.mark.Mark.{Mark}
 use Rattle.loans.specs.Lists.{less_first, less_all}
@@ -18,42 +17,42 @@ use Rattle.loans.specs.Rules.Deed.{lend, paint, undo, keep, cancel}
 -- a call and what it answered
 pub record Event : Type 0 where
   pub call : Deed
-  pub answer : Answer
+  pub answer : Result ℕ Refusal
 
 -- the calls in order, each with its answer, written down behind a history
-abbrev pub written_down : List Event → List Deed → List Answer → List Event
+abbrev pub written_down : List Event → List Deed → List (Result ℕ Refusal) → List Event
 written_down h [] rs = h
 written_down h (d ∷ ds) [] = h
 written_down h (d ∷ ds) (r ∷ rs) = written_down (record { call = d; answer = r } ∷ h) ds rs
 
 -- the history of a list of calls and their answers
-abbrev pub history_of : List Deed → List Answer → List Event
+abbrev pub history_of : List Deed → List (Result ℕ Refusal) → List Event
 history_of ds rs = written_down [] ds rs
 
 -- a loan as it is granted
 abbrev pub granting : Table → ℕ → Piece → ℕ → Loan
 granting t n p who = record { number = n; borrower = who; piece = p; area = area_in t p; strokes = 0 }
 
-abbrev pub lent_after : Table → List Loan → Deed → Answer → List Loan
-lent_after t ls d (Refused e) = ls
-lent_after t ls (lend p who) (Done n) = granting t n p who ∷ ls
-lent_after t ls (paint p) (Done k) = ls
-lent_after t ls (undo n who) (Done k) = ls
-lent_after t ls (keep n) (Done k) = ls
-lent_after t ls (cancel n) (Done k) = ls
+abbrev pub lent_after : Table → List Loan → Deed → Result ℕ Refusal → List Loan
+lent_after t ls d (Err e) = ls
+lent_after t ls (lend p who) (Ok n) = granting t n p who ∷ ls
+lent_after t ls (paint p) (Ok k) = ls
+lent_after t ls (undo n who) (Ok k) = ls
+lent_after t ls (keep n) (Ok k) = ls
+lent_after t ls (cancel n) (Ok k) = ls
 
 -- every loan that was ever granted, also those that have ended, the newest first
 abbrev pub lent : Table → List Event → List Loan
 lent t [] = []
 lent t (e ∷ h) = lent_after t (lent t h) e.call e.answer
 
-abbrev pub out_after : Table → List Loan → Deed → Answer → List Loan
-out_after t ls d (Refused e) = ls
-out_after t ls (lend p who) (Done n) = ls ++ granting t n p who ∷ []
-out_after t ls (paint p) (Done k) = ls
-out_after t ls (undo n who) (Done k) = ls
-out_after t ls (keep n) (Done k) = less_all (is_number n) ls
-out_after t ls (cancel n) (Done k) = less_all (is_number n) ls
+abbrev pub out_after : Table → List Loan → Deed → Result ℕ Refusal → List Loan
+out_after t ls d (Err e) = ls
+out_after t ls (lend p who) (Ok n) = ls ++ granting t n p who ∷ []
+out_after t ls (paint p) (Ok k) = ls
+out_after t ls (undo n who) (Ok k) = ls
+out_after t ls (keep n) (Ok k) = less_all (is_number n) ls
+out_after t ls (cancel n) (Ok k) = less_all (is_number n) ls
 
 -- the loans that are out: from the call that answered their number until a keep or a cancel of them is carried out; in the order
 -- in which they were granted
@@ -62,25 +61,25 @@ out_in t [] = []
 out_in t (e ∷ h) = out_after t (out_in t h) e.call e.answer
 
 -- how many keeps, and how many cancels, were carried out
-abbrev pub keeps_after : ℕ → Deed → Answer → ℕ
-keeps_after k d (Refused e) = k
-keeps_after k (lend p who) (Done n) = k
-keeps_after k (paint p) (Done n) = k
-keeps_after k (undo m who) (Done n) = k
-keeps_after k (keep m) (Done n) = k + 1
-keeps_after k (cancel m) (Done n) = k
+abbrev pub keeps_after : ℕ → Deed → Result ℕ Refusal → ℕ
+keeps_after k d (Err e) = k
+keeps_after k (lend p who) (Ok n) = k
+keeps_after k (paint p) (Ok n) = k
+keeps_after k (undo m who) (Ok n) = k
+keeps_after k (keep m) (Ok n) = k + 1
+keeps_after k (cancel m) (Ok n) = k
 
 abbrev pub keeps_in : List Event → ℕ
 keeps_in [] = 0
 keeps_in (e ∷ h) = keeps_after (keeps_in h) e.call e.answer
 
-abbrev pub cancels_after : ℕ → Deed → Answer → ℕ
-cancels_after k d (Refused e) = k
-cancels_after k (lend p who) (Done n) = k
-cancels_after k (paint p) (Done n) = k
-cancels_after k (undo m who) (Done n) = k
-cancels_after k (keep m) (Done n) = k
-cancels_after k (cancel m) (Done n) = k + 1
+abbrev pub cancels_after : ℕ → Deed → Result ℕ Refusal → ℕ
+cancels_after k d (Err e) = k
+cancels_after k (lend p who) (Ok n) = k
+cancels_after k (paint p) (Ok n) = k
+cancels_after k (undo m who) (Ok n) = k
+cancels_after k (keep m) (Ok n) = k
+cancels_after k (cancel m) (Ok n) = k + 1
 
 abbrev pub cancels_in : List Event → ℕ
 cancels_in [] = 0
@@ -119,26 +118,26 @@ laying opening ls ss p =
     let at : ℕ = stroke_place (the_loan ls p.loan).area p in
     record { painting = p; piece = (the_loan ls p.loan).piece; place = at; below = bytes_under opening ss at (length p.laid) }
 
-abbrev pub standing_after : List ℕ → List Loan → List Stroke → Deed → Answer → List Stroke
-standing_after opening ls ss d (Refused e) = ss
-standing_after opening ls ss (lend p who) (Done n) = ss
-standing_after opening ls ss (paint p) (Done k) = laying opening ls ss p ∷ ss
-standing_after opening ls ss (undo n who) (Done k) = less_first (stroke_of n) ss
-standing_after opening ls ss (keep n) (Done k) = ss
-standing_after opening ls ss (cancel n) (Done k) = less_all (stroke_of n) ss
+abbrev pub standing_after : List ℕ → List Loan → List Stroke → Deed → Result ℕ Refusal → List Stroke
+standing_after opening ls ss d (Err e) = ss
+standing_after opening ls ss (lend p who) (Ok n) = ss
+standing_after opening ls ss (paint p) (Ok k) = laying opening ls ss p ∷ ss
+standing_after opening ls ss (undo n who) (Ok k) = less_first (stroke_of n) ss
+standing_after opening ls ss (keep n) (Ok k) = ss
+standing_after opening ls ss (cancel n) (Ok k) = less_all (stroke_of n) ss
 
 -- the strokes that stand, the newest first: an undo takes back the newest of its loan, a cancel all of them
 abbrev pub standing : Table → List ℕ → List Event → List Stroke
 standing t opening [] = []
 standing t opening (e ∷ h) = standing_after opening (out_in t h) (standing t opening h) e.call e.answer
 
-abbrev pub laid_after : List ℕ → List Loan → List Stroke → List Stroke → Deed → Answer → List Stroke
-laid_after opening ls ss old d (Refused e) = old
-laid_after opening ls ss old (lend p who) (Done n) = old
-laid_after opening ls ss old (paint p) (Done k) = laying opening ls ss p ∷ old
-laid_after opening ls ss old (undo n who) (Done k) = old
-laid_after opening ls ss old (keep n) (Done k) = old
-laid_after opening ls ss old (cancel n) (Done k) = old
+abbrev pub laid_after : List ℕ → List Loan → List Stroke → List Stroke → Deed → Result ℕ Refusal → List Stroke
+laid_after opening ls ss old d (Err e) = old
+laid_after opening ls ss old (lend p who) (Ok n) = old
+laid_after opening ls ss old (paint p) (Ok k) = laying opening ls ss p ∷ old
+laid_after opening ls ss old (undo n who) (Ok k) = old
+laid_after opening ls ss old (keep n) (Ok k) = old
+laid_after opening ls ss old (cancel n) (Ok k) = old
 
 -- every stroke that was ever laid, also those that were taken back, the newest first
 abbrev pub ever_laid : Table → List ℕ → List Event → List Stroke

@@ -1,10 +1,9 @@
 -- The law of loans and strokes: what holds after every list of calls on a newly opened job with two empty shelves.
-use Rattle.std.specs.Prelude.{◌≡◌, ℕ, ◌+◌, ◌<◌, ◌≤◌, true, List, [], ◌∷◌, length, ◌≢◌}
+use Rattle.std.specs.Prelude.{◌≡◌, ℕ, ◌+◌, ◌<◌, ◌≤◌, true, List, [], ◌∷◌, length, Err, ◌≢◌}
 use Rattle.std.specs.List.{AllByRecursion}
 use Rattle.refusal.specs.declared.Refusal.TheVariants.{OtherLength, ForeignShelves}
 use Rattle.dds.specs.declared.table.Table.{Table}
 use Rattle.dds.specs.Places.{exists_in, area_in}
-use Rattle.loans.specs.declared.call.Answer.TheVariants.{Refused}
 use Rattle.loans.specs.declared.ledger.Loan.{Loan}
 use Rattle.loans.specs.Lists.{Among}
 use Rattle.loans.specs.Stocks.{is_out, the_loan}
@@ -20,7 +19,7 @@ Answered t number most_marks most_bytes opening (e ∷ h) =
 
 -- the job's own file and shelves are never taken for others
 abbrev pub AtHome : Event → Type 0
-AtHome e = (e.answer ≢ Refused OtherLength) × (e.answer ≢ Refused ForeignShelves)
+AtHome e = (e.answer ≢ Err OtherLength) × (e.answer ≢ Err ForeignShelves)
 
 -- the numbers given are 1, 2, 3 and so on; the list has the newest first
 abbrev pub Numbered : List Loan → Type 0

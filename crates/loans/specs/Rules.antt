@@ -1,9 +1,7 @@
 -- What each call on a job answers and leaves, in one place: the single calls and the law over lists of calls both cite this.
-use Rattle.std.specs.Prelude.{ℕ, List, [], ◌∷◌, length, Some, None, Option}
+use Rattle.std.specs.Prelude.{ℕ, List, [], ◌∷◌, length, Some, None, Ok, Err, Option, Result}
 use Rattle.refusal.specs.declared.Refusal.{Refusal}
 use Rattle.dds.specs.declared.piece.Piece.{Piece}
-use Rattle.loans.specs.declared.call.Answer.{Answer}
-use Rattle.loans.specs.declared.call.Answer.TheVariants.{Done, Refused}
 use Rattle.loans.specs.declared.call.Call.{Call}
 use Rattle.loans.specs.declared.call.Call.TheVariants.{Loan, Paint, Undo, Keep, Cancel}
 use Rattle.loans.specs.Lending.{loan_refusal, with_loan}
@@ -50,23 +48,23 @@ number_for after (undo n who) = marks_of n after.stock.marks
 number_for after (keep n) = length after.book.outs
 number_for after (cancel n) = length after.book.outs
 
-abbrev pub reply : Option Refusal → ℕ → Answer
-reply None n = Done n
-reply (Some e) n = Refused e
+abbrev pub reply : Option Refusal → ℕ → Result ℕ Refusal
+reply None n = Ok n
+reply (Some e) n = Err e
 
 abbrev pub left : Option Refusal → State → State → State
 left None before after = after
 left (Some e) before after = before
 
 -- what a call answers, and what stands after it: where it is refused, what stood before
-abbrev pub answer_to : State → Deed → Answer
+abbrev pub answer_to : State → Deed → Result ℕ Refusal
 answer_to s d = reply (refusal_of s d) (number_for (carried_out s d) d)
 
 abbrev pub after : State → Deed → State
 after s d = left (refusal_of s d) s (carried_out s d)
 
 -- the same of a list of calls, one after the other
-abbrev pub answers_to : State → List Deed → List Answer
+abbrev pub answers_to : State → List Deed → List (Result ℕ Refusal)
 answers_to s [] = []
 answers_to s (d ∷ ds) = answer_to s d ∷ answers_to (after s d) ds
 

@@ -1,11 +1,10 @@
 -- What a run of calls answers and leaves, and the law over it.
-use Rattle.std.specs.Prelude.{◌≡◌, ℕ, ◌+◌, ◌<◌, Bool, true, ◌&&◌, List, [], ◌++◌, length, take, Some, Ok, Err, Result, ◌==◌}
+use Rattle.std.specs.Prelude.{◌≡◌, ℕ, ◌+◌, ◌<◌, Bool, true, ◌&&◌, List, [], ◌++◌, length, take, Some, Ok, Err, Result, ◌==◌, codes}
 use Rattle.refusal.specs.declared.Refusal.{Refusal}
+use Rattle.refusal.specs.Meanings.{refusal_text}
 use Rattle.dds.specs.declared.layout.Layout.{Layout}
 use Rattle.dds.specs.declared.table.Table.{Table}
 use Rattle.dds.specs.Layouts.{Opened}
-use Rattle.loans.specs.declared.call.Answer.{Answer}
-use Rattle.loans.specs.declared.call.Answer.TheVariants.{Done}
 use Rattle.loans.specs.declared.docket.Docket.{Docket}
 use Rattle.loans.specs.declared.job.Job.{Job}
 use Rattle.loans.specs.declared.mark.Shelves.{Shelves}
@@ -38,13 +37,8 @@ abbrev pub OursAlong : Bool → State → List Deed → Type 0
 OursAlong known s ds =
     known ≡ true → (i : ℕ) → are_ours (after_all s (take i ds)).book (after_all s (take i ds)).stock ≡ true
 
--- the answer of a call's result
-abbrev pub answer_with : Result ℕ Refusal → Answer
-answer_with (Ok n) = Done n
-answer_with (Err e) = Answer.Refused e
-
 -- a list of calls, one after the other; their answers stand behind those that were there
-pub record AllDone (ds : List Deed) (s : State) (old : List Answer) (t : State) (new : List Answer) : Type 0 where
+pub record AllDone (ds : List Deed) (s : State) (old : List (Result ℕ Refusal)) (t : State) (new : List (Result ℕ Refusal)) : Type 0 where
   pub answers : new ≡ old ++ answers_to s ds
   pub state : t ≡ after_all s ds
 
@@ -57,7 +51,7 @@ pub record Ordered : Type 0 where
   pub rows : ℕ → ℕ → ℕ
   pub shelves : Shelves
   pub calls : List Deed
-  pub old : List Answer
+  pub old : List (Result ℕ Refusal)
 
 -- what opening the file answers
 abbrev pub OpenedAs : Ordered → Result Layout Refusal → Type 0
@@ -65,11 +59,11 @@ OpenedAs o r = Opened (take 148 o.file) (length o.file) o.row_bytes o.rows r
 
 -- a run that was made: on any shelves each call went by its own rule; on two empty shelves the law holds of the file, the job, the
 -- shelves, the calls and their answers
-pub record RanSo (o : Ordered) (d : Docket) (t : State) (all : List Answer) : Type 0 where
+pub record RanSo (o : Ordered) (d : Docket) (t : State) (all : List (Result ℕ Refusal)) : Type 0 where
   pub layout : Layout
   pub opened : OpenedAs o (Ok layout)
   pub docket : d.number ≡ o.number
-  pub given : List Answer
+  pub given : List (Result ℕ Refusal)
   pub answers : all ≡ o.old ++ given
   pub each : length given ≡ length o.calls
   pub by_rules : given ≡ answers_to (opened_state layout.table o.number o.file (stock_of o.shelves)) o.calls
@@ -77,12 +71,17 @@ pub record RanSo (o : Ordered) (d : Docket) (t : State) (all : List Answer) : Ty
   pub law : (stock_of o.shelves).marks ≡ [] → (stock_of o.shelves).bytes ≡ []
       → Law layout.table o.number (stock_of o.shelves).most_marks (stock_of o.shelves).most_bytes o.file (history_of o.calls given) t
 
+-- a fault as text
+abbrev pub fault_text : RunFault → List ℕ
+fault_text (Refused e) = refusal_text e
+fault_text NoMemory = codes "no memory for the answers"
+
 -- job, file, shelves and answers are what they were
-abbrev pub Untouched : Ordered → Job → Job → List ℕ → Shelves → List Answer → Type 0
+abbrev pub Untouched : Ordered → Job → Job → List ℕ → Shelves → List (Result ℕ Refusal) → Type 0
 Untouched o j j' f' v' new = (j' ≡ j) × (f' ≡ o.file) × (v' ≡ o.shelves) × (new ≡ o.old)
 
 -- want of memory comes only where the Vec's capacity was too small for what stands in it and the answers
-abbrev pub Ran : Ordered → ℕ → ℕ → Job → Result Docket RunFault → Job → List ℕ → Shelves → List Answer → Type 0
+abbrev pub Ran : Ordered → ℕ → ℕ → Job → Result Docket RunFault → Job → List ℕ → Shelves → List (Result ℕ Refusal) → Type 0
 Ran o len room j (Ok d) j' f' v' new = RanSo o d (state_of j' f' v') new
 Ran o len room j (Err (Refused e)) j' f' v' new = OpenedAs o (Err e) × Untouched o j j' f' v' new
 Ran o len room j (Err NoMemory) j' f' v' new =

@@ -1,6 +1,8 @@
 -- What a job writes down after a call that was carried out, in the ledger's own memory.
 use Rattle.std.specs.Prelude.{ℕ, ◌+◌, ◌-◌, slice_index_or, slice_set}
 use Rattle.shelf.specs.Calls.{slid_down}
+use Rattle.loans.specs.declared.ending.Ending.{Ending}
+use Rattle.loans.specs.declared.ending.Ending.TheVariants.{Kept, Cancelled}
 use Rattle.loans.specs.declared.ledger.Ledger.{Ledger}
 use Rattle.loans.specs.declared.ledger.Loan.{Loan}
 use Rattle.loans.specs.Books.{no_loan}
@@ -21,6 +23,15 @@ ledger_counted l k n marks' bytes' =
       marks = marks';
       bytes = bytes';
     }
+
+-- how many loans more were kept, and how many more cancelled, where one ends
+abbrev pub kept_by : Ending → ℕ
+kept_by Kept = 1
+kept_by Cancelled = 0
+
+abbrev pub cancelled_by : Ending → ℕ
+cancelled_by Kept = 0
+cancelled_by Cancelled = 1
 
 -- the loan at a position is out no more; those behind it move up, so many more were kept and so many more cancelled
 abbrev pub ledger_ended : Ledger → ℕ → ℕ → ℕ → ℕ → ℕ → Ledger

@@ -3,15 +3,11 @@ use dds::Piece;
 use refusal::Refusal;
 
 // What a call answers: its number where it was carried out, or why it was turned down.
-#[derive(Clone, Copy, PartialEq, Eq, Debug)]
-pub enum Answer {
-    Done(u32),
-    Refused(Refusal),
-}
+pub type Answer = Result<u32, Refusal>;
 
 // What a paint names: the loan and who paints, the row of the loan's piece and the row's byte where the stroke begins, and
 // the bytes to lay.
-#[derive(Clone, Copy)]
+#[derive(Clone, Copy, PartialEq, Eq, Debug)]
 pub struct Painting<'a> {
     pub loan: u32,
     pub borrower: u32,
@@ -21,7 +17,7 @@ pub struct Painting<'a> {
 }
 
 // A call with its arguments. A paint borrows the bytes that it lays.
-#[derive(Clone, Copy)]
+#[derive(Clone, Copy, PartialEq, Eq, Debug)]
 pub enum Call<'a> {
     Loan { piece: Piece, borrower: u32 },
     Paint(Painting<'a>),

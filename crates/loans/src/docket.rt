@@ -3,8 +3,10 @@ ghost use Rattle.std.specs.Prelude.{◌≡◌, true, false};
 
 // A token with a job's number. Whoever opens a job must spend it by ship or scrap: a program that lets one go is not proved, since no
 // docket that is handed out is spent.
+#[derive(PartialEq, Eq, Debug)]
 pub struct Docket {
     number: u32,
+    // a flag: a drop that no call can meet would be refused itself, so that no fact could refuse a program that lets a docket go
     spent: bool,
 }
 

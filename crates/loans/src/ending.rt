@@ -1,8 +1,7 @@
 // Ending a loan: keeping or cancelling it.
 ghost use Rattle.std.specs.Prelude.{◌≡◌, ◌+◌, ◌<◌, length};
-ghost use Rattle.loans.specs.Books.{Balanced};
 ghost use Rattle.loans.specs.Jobs.{book_of};
-ghost use Rattle.loans.specs.Writing.{ledger_ended};
+ghost use Rattle.loans.specs.Writing.{kept_by, cancelled_by, ledger_ended};
 ghost use Rattle.loans.specs.Stocks.{stock_of, lengths, OursWhere};
 ghost use Rattle.loans.specs.Ending.{stock_without, restored, InFile};
 ghost use Rattle.loans.specs.Rules.Deed.{keep, cancel};
@@ -11,10 +10,16 @@ ghost use Rattle.loans.specs.Handed.{HandedWhere};
 ghost use Rattle.loans.specs.Sifting.{Fits, stock_slid};
 
 use crate::job::Job;
-use crate::ledger::Ledger;
 use crate::mark::{Mark, Shelves};
 use crate::painting::lay;
 use refusal::Refusal;
+
+// How a loan ends.
+#[derive(Clone, Copy)]
+pub(crate) enum Ending {
+    Kept,
+    Cancelled,
+}
 
 // How far the shelves are filled with what stays, while a pass closes the gaps.
 #[derive(Clone, Copy)]
@@ -60,10 +65,8 @@ fn restore(file: &mut [u8], marks: &[Mark], covered: &[u8], loan: u32)
     requires inside { InFile (length file.old) marks.now }
     ensures { file.new ≡ restored loan file.old marks.now covered.now }
 {
-    let mut position = marks.len();
     let mut end = covered.len();
-    while position > 0 {
-        position -= 1;
+    for position in (0..marks.len()).rev() {
         let mark = marks[position];
         let begin = end - mark.length;
         if mark.loan == loan {
@@ -73,36 +76,24 @@ fn restore(file: &mut [u8], marks: &[Mark], covered: &[u8], loan: u32)
     }
 }
 
-impl Ledger {
-    // The ledger without the loan at a position, which is kept or cancelled, and with the counts of the shelves.
-    fn ended(&self, position: usize, kept: u32, cancelled: u32, shelves: &Shelves<'_>) -> Ledger
-        requires balanced { Balanced self.now }
-        requires out { position < self.now.out }
-        requires one { kept + cancelled ≡ 1 }
-        ensures { result ≡ ledger_ended self.now position kept cancelled (length (stock_of shelves.now).marks) (length (stock_of shelves.now).bytes) }
+impl Job {
+    // Writes down how the loan at a position ended, and the counts of the shelves.
+    fn end_loan(&mut self, position: usize, ending: Ending, shelves: &Shelves<'_>)
+        requires { position < length (book_of self.old).outs }
+        ensures layout { self.new.layout ≡ self.old.layout }
+        ensures ledger { self.new.ledger ≡ ledger_ended self.old.ledger position (kept_by ending) (cancelled_by ending) (length (stock_of shelves.now).marks) (length (stock_of shelves.now).bytes) }
     {
-        let mut ledger = *self;
+        let mut ledger = self.ledger;
         let out = ledger.out as usize;
         ledger.loans.copy_within(position + 1..out, position);
         ledger.out -= 1;
-        ledger.kept += kept;
-        ledger.cancelled += cancelled;
         ledger.marks = shelves.marks().count();
         ledger.bytes = shelves.bytes().count();
-        ledger
-    }
-}
-
-impl Job {
-    // Writes down that the loan at a position was kept or cancelled, and the counts of the shelves.
-    fn end_loan(&mut self, position: usize, kept: u32, cancelled: u32, shelves: &Shelves<'_>)
-        requires out { position < length (book_of self.old).outs }
-        requires one { kept + cancelled ≡ 1 }
-        ensures layout { self.new.layout ≡ self.old.layout }
-        ensures ledger { self.new.ledger ≡ ledger_ended self.old.ledger position kept cancelled (length (stock_of shelves.now).marks) (length (stock_of shelves.now).bytes) }
-    {
-        let ledger = self.ledger().ended(position, kept, cancelled, shelves);
-        *self = Job::of(*self.layout(), ledger);
+        match ending {
+            Ending::Kept => ledger.kept += 1,
+            Ending::Cancelled => ledger.cancelled += 1,
+        }
+        self.ledger = ledger;
     }
 
     // Ends a loan for good; see `keep`.
@@ -115,15 +106,13 @@ impl Job {
         requires { OursWhere known (book_of self.old) (stock_of shelves.old) }
         ensures { CalledOnAny (keep loan) self.old shelves.old result self.new shelves.new }
     {
-        let Some(position) = self.position_of(loan) else {
-            return Err(Refusal::LoanNotOut);
-        };
+        let position = self.position_of(loan).ok_or(Refusal::LoanNotOut)?;
         if !self.owns_or_knows(shelves, known) {
             return Err(Refusal::ForeignShelves);
         }
         shelves.drop_loan(loan);
-        self.end_loan(position, 1, 0, shelves);
-        Ok(self.ledger().out)
+        self.end_loan(position, Ending::Kept, shelves);
+        Ok(self.ledger.out)
     }
 
     // Takes back all strokes of a loan and ends it; see `cancel`.
@@ -140,9 +129,7 @@ impl Job {
         if !self.has_length(file) {
             return Err(Refusal::OtherLength);
         }
-        let Some(position) = self.position_of(loan) else {
-            return Err(Refusal::LoanNotOut);
-        };
+        let position = self.position_of(loan).ok_or(Refusal::LoanNotOut)?;
         if !self.owns_or_knows(shelves, known) {
             return Err(Refusal::ForeignShelves);
         }
@@ -153,8 +140,8 @@ impl Job {
             loan,
         );
         shelves.drop_loan(loan);
-        self.end_loan(position, 0, 1, shelves);
-        Ok(self.ledger().out)
+        self.end_loan(position, Ending::Cancelled, shelves);
+        Ok(self.ledger.out)
     }
 
     // Ends a loan: its strokes stand for good, and their marks and bytes leave the shelves. Answers how many loans are still out.

@@ -3,7 +3,7 @@ use dds::{Area, Piece};
 
 // One borrower's right to paint in one piece, known by a number that its job gives only once. A loan is out until it is kept or
 // cancelled, and spans its piece's bytes.
-#[derive(Clone, Copy)]
+#[derive(Clone, Copy, PartialEq, Eq, Debug, Default)]
 pub struct Loan {
     pub number: u32,
     pub borrower: u32,
@@ -13,31 +13,12 @@ pub struct Loan {
     pub strokes: u32,
 }
 
-impl Loan {
-    // What stands where no loan was written down yet.
-    pub(crate) const NONE: Loan = Loan {
-        number: 0,
-        borrower: 0,
-        piece: Piece {
-            element: 0,
-            level: 0,
-            slice: 0,
-        },
-        area: Area {
-            place: 0,
-            length: 0,
-            row_bytes: 0,
-            rows: 0,
-        },
-        strokes: 0,
-    };
-}
-
 // The first `out` of the loans are out, in the order in which they were granted; the rest is left from before. `marks` and `bytes`
 // are the counts of the job's two shelves. A job has a number while a file is open in it.
 #[derive(Clone, Copy)]
 pub struct Ledger {
     pub number: Option<u32>,
+    // fixed memory with a count beside it: a job is Copy, which no vector of the loans would be
     pub loans: [Loan; 32],
     pub out: u32,
     pub granted: u32,

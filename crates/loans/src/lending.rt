@@ -1,7 +1,7 @@
 // Lending a piece.
 ghost use Rattle.std.specs.Prelude.{◌≡◌, ◌<◌};
-ghost use Rattle.loans.specs.Lending.{same_piece, piece_is_out, ledger_with, Lent};
-ghost use Rattle.loans.specs.Books.{Balanced, outs};
+ghost use Rattle.loans.specs.Lending.{piece_is_out, ledger_with, Lent};
+ghost use Rattle.loans.specs.Jobs.{book_of};
 
 use crate::job::Job;
 use crate::ledger::{Ledger, Loan};
@@ -13,41 +13,28 @@ const MOST_OUT: u32 = 32;
 
 const MOST_GRANTED: u32 = 65535;
 
-fn is_same(a: Piece, b: Piece) -> bool
-    ensures { result ≡ same_piece a b }
-{
-    a.element == b.element && a.level == b.level && a.slice == b.slice
-}
-
 // One of the loans has the piece.
 fn is_out(loans: &[Loan], piece: Piece) -> bool
     ensures { result ≡ piece_is_out loans.now piece }
 {
-    for loan in loans {
-        if is_same(loan.piece, piece) {
-            return true;
-        }
-    }
-    false
+    loans.iter().any(|loan| loan.piece == piece)
 }
 
-impl Ledger {
+impl Job {
     // The loans out, in the order in which they were granted.
     pub(crate) fn outs(&self) -> &[Loan]
-        requires { Balanced self.now }
-        ensures { result.now ≡ outs self.now }
+        ensures { result.now ≡ (book_of self.now).outs }
     {
-        &self.loans[0..self.out as usize]
+        &self.ledger.loans[0..self.ledger.out as usize]
     }
 
-    // The ledger with one loan more.
+    // The job's ledger with one loan more.
     fn with_loan(&self, piece: Piece, borrower: u32, area: Area) -> Ledger
-        requires balanced { Balanced self.now }
-        requires room { self.now.out < 32 }
-        requires numbers { self.now.granted < 65535 }
-        ensures { result ≡ ledger_with self.now piece borrower area }
+        requires room { self.now.ledger.out < 32 }
+        requires numbers { self.now.ledger.granted < 65535 }
+        ensures { result ≡ ledger_with self.now.ledger piece borrower area }
     {
-        let mut ledger = *self;
+        let mut ledger = self.ledger;
         let number = ledger.granted + 1;
         let out = ledger.out as usize;
         ledger.loans[out] = Loan {
@@ -61,27 +48,23 @@ impl Ledger {
         ledger.granted = number;
         ledger
     }
-}
 
-impl Job {
     // Lends a piece to a borrower, and answers the loan's number. Refuses with NoSuchPiece, PieceOut, TooManyLoans or
     // NumbersUsedUp, in this order.
     pub fn loan(&mut self, piece: Piece, borrower: u32) -> Result<u32, Refusal>
         ensures { Lent piece borrower self.old result self.new }
     {
-        let area = self.layout().place_of(piece)?;
-        let ledger = self.ledger();
-        if is_out(ledger.outs(), piece) {
+        let area = self.layout.place_of(piece)?;
+        if is_out(self.outs(), piece) {
             return Err(Refusal::PieceOut);
         }
-        if ledger.out >= MOST_OUT {
+        if self.ledger.out >= MOST_OUT {
             return Err(Refusal::TooManyLoans);
         }
-        if ledger.granted >= MOST_GRANTED {
+        if self.ledger.granted >= MOST_GRANTED {
             return Err(Refusal::NumbersUsedUp);
         }
-        let granted = ledger.with_loan(piece, borrower, area);
-        *self = Job::of(*self.layout(), granted);
-        Ok(granted.granted)
+        self.ledger = self.with_loan(piece, borrower, area);
+        Ok(self.ledger.granted)
     }
 }

@@ -13,15 +13,15 @@ use refusal::Refusal;
 
 impl Job {
     // A job with no loans over a layout.
-    fn fresh(layout: Layout, number: Option<u32>) -> Job
+    pub(crate) fn fresh(layout: Layout, number: Option<u32>) -> Job
         ensures layout { result.layout ≡ layout }
         ensures book { book_of result ≡ fresh_book layout.table number }
     {
-        Job::of(
+        Job {
             layout,
-            Ledger {
+            ledger: Ledger {
                 number,
-                loans: [Loan::NONE; 32],
+                loans: [Loan::default(); 32],
                 out: 0,
                 granted: 0,
                 kept: 0,
@@ -29,7 +29,7 @@ impl Job {
                 marks: 0,
                 bytes: 0,
             },
-        )
+        }
     }
 
     // A job that holds no file.
@@ -50,13 +50,9 @@ impl Job {
         ensures opened { OpenedWith file.now number (F.row_bytes family.now) (F.rows family.now) self.old result self.new }
         ensures unspent { IfOk result (λ docket. docket.spent ≡ false) }
     {
-        match Layout::read_with(head_of(file), file.len() as u64, family) {
-            Ok(layout) => {
-                *self = Job::fresh(layout, Some(number));
-                Ok(Docket::of(number))
-            }
-            Err(refusal) => Err(refusal),
-        }
+        let layout = Layout::read_with(head_of(file), file.len() as u64, family)?;
+        *self = Job::fresh(layout, Some(number));
+        Ok(Docket::of(number))
     }
 
     // Opens a file by the format that its header names, with a table of the codes other than DX10.
@@ -79,28 +75,28 @@ impl Job {
         ensures value { WhereIs self.now.layout piece result }
         ensures exact { result ≡ where_in (book_of self.now).table piece }
     {
-        self.layout().place_of(piece)
+        self.layout.place_of(piece)
     }
 
     // The piece that has the byte at a place, and the byte's offset in it; none for a byte of no piece. Refuses with PastFileEnd.
     pub fn whose(&self, place: u64) -> Result<Option<(Piece, u32)>, Refusal>
         ensures { WhoseIs self.now.layout place result }
     {
-        self.layout().piece_at(place)
+        self.layout.piece_at(place)
     }
 
     // The bytes of a piece, a part of the file. Refuses with OtherLength, then with NoSuchPiece.
     pub fn show<'a>(&self, file: &'a [u8], piece: Piece) -> Result<&'a [u8], Refusal>
         ensures { Shown self.now.layout file.now piece result }
     {
-        self.layout().bytes_of(file, piece)
+        self.layout.bytes_of(file, piece)
     }
 
     // The job's counts.
     pub fn report(&self) -> Report
         ensures { result ≡ report_of (book_of self.now) }
     {
-        let ledger = self.ledger();
+        let ledger = &self.ledger;
         Report {
             granted: ledger.granted,
             kept: ledger.kept,

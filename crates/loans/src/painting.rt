@@ -1,7 +1,7 @@
 // Laying a stroke.
 ghost use Rattle.std.specs.Prelude.{◌≡◌, ◌+◌, ◌*◌, ◌<◌, ◌≤◌, false, length, ◌==◌, slice_index_or};
 ghost use Rattle.std.proofs.Math.Seq.{paste};
-ghost use Rattle.loans.specs.Books.{Balanced, no_loan};
+ghost use Rattle.loans.specs.Books.{no_loan};
 ghost use Rattle.loans.specs.Rules.Deed.{paint};
 ghost use Rattle.loans.specs.Calls.{Called};
 ghost use Rattle.loans.specs.Writing.{ledger_counted};
@@ -12,7 +12,7 @@ ghost use Rattle.loans.specs.Strokes.{state_of, Held, stock_with, painting_of, i
 
 use crate::call::Painting;
 use crate::job::Job;
-use crate::ledger::{Ledger, Loan};
+use crate::ledger::Loan;
 use crate::mark::{Mark, Shelves};
 use crate::searching::position_of;
 use dds::Area;
@@ -63,34 +63,19 @@ pub(crate) fn lay(file: &mut [u8], place: usize, bytes: &[u8])
     file[place..place + bytes.len()].copy_from_slice(bytes);
 }
 
-impl Ledger {
-    // The ledger with so many strokes of the loan at a position, and the counts of the shelves.
-    fn counted(&self, position: usize, strokes: u32, shelves: &Shelves<'_>) -> Ledger
-        requires balanced { Balanced self.now }
-        requires out { position < self.now.out }
-        ensures { result ≡ ledger_counted self.now position strokes (length (stock_of shelves.now).marks) (length (stock_of shelves.now).bytes) }
-    {
-        let mut ledger = *self;
-        ledger.loans[position].strokes = strokes;
-        ledger.marks = shelves.marks().count();
-        ledger.bytes = shelves.bytes().count();
-        ledger
-    }
-}
-
 impl Job {
     // The file has the job's length.
     pub(crate) fn has_length(&self, file: &[u8]) -> bool
         ensures { result ≡ (length file.now == (book_of self.now).table.length) }
     {
-        file.len() as u64 == self.layout().length()
+        file.len() as u64 == self.layout.length()
     }
 
     // The position of the loan of a number among the loans out.
     pub(crate) fn position_of(&self, number: u32) -> Option<usize>
         ensures { Found (book_of self.now).outs number result }
     {
-        position_of(self.ledger().outs(), number)
+        position_of(self.outs(), number)
     }
 
     // The loan at a position among the loans out.
@@ -100,7 +85,7 @@ impl Job {
         ensures inside { result.area.place + result.area.length ≤ (book_of self.now).table.length }
         ensures rows { result.area.length ≡ result.area.row_bytes * result.area.rows }
     {
-        self.ledger().outs()[position]
+        self.outs()[position]
     }
 
     // The position of a loan that a borrower holds. Refuses with OtherLength, LoanNotOut, OtherBorrower or ForeignShelves, in this
@@ -119,9 +104,7 @@ impl Job {
         if !self.has_length(file) {
             return Err(Refusal::OtherLength);
         }
-        let Some(position) = self.position_of(loan) else {
-            return Err(Refusal::LoanNotOut);
-        };
+        let position = self.position_of(loan).ok_or(Refusal::LoanNotOut)?;
         if self.loan_at(position).borrower != borrower {
             return Err(Refusal::OtherBorrower);
         }
@@ -164,8 +147,11 @@ impl Job {
         ensures layout { self.new.layout ≡ self.old.layout }
         ensures ledger { self.new.ledger ≡ ledger_counted self.old.ledger position strokes (length (stock_of shelves.now).marks) (length (stock_of shelves.now).bytes) }
     {
-        let ledger = self.ledger().counted(position, strokes, shelves);
-        *self = Job::of(*self.layout(), ledger);
+        let mut ledger = self.ledger;
+        ledger.loans[position].strokes = strokes;
+        ledger.marks = shelves.marks().count();
+        ledger.bytes = shelves.bytes().count();
+        self.ledger = ledger;
     }
 
     // Lays a stroke; see `paint`.

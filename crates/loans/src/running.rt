@@ -1,33 +1,57 @@
 // Running a list of calls on a newly opened job.
-ghost use Rattle.std.specs.Prelude.{◌≡◌, false, IfOk, ◌+◌, ◌≤◌, map, length, vec_len, vec_capacity};
+ghost use Rattle.std.specs.Prelude.{◌≡◌, false, IfOk, Some, ◌+◌, ◌≤◌, map, length, vec_len, vec_capacity};
+ghost use Rattle.loans.specs.declared.running.RunFault.TheVariants.{Refused, NoMemory};
 ghost use Rattle.loans.specs.Jobs.{book_of};
 ghost use Rattle.loans.specs.Stocks.{stock_of, OursWhere};
 ghost use Rattle.loans.specs.Strokes.{state_of};
 ghost use Rattle.loans.specs.Rules.{deed_of};
 ghost use Rattle.loans.specs.Calls.{Called};
-ghost use Rattle.loans.specs.Runs.{answer_with, AllDone, OursAlong, is_empty, Ran};
+ghost use Rattle.loans.specs.Runs.{AllDone, fault_text, OursAlong, is_empty, Ran};
 
 use crate::call::{Answer, Call};
 use crate::docket::Docket;
 use crate::job::Job;
 use crate::mark::Shelves;
+use dds::{Layout, head_of};
 use formats::Family;
 use refusal::Refusal;
+use std::alloc::AllocError;
+use std::error::Error;
+use std::fmt;
 
 // Why a run was not made: the file was not opened, or there was no memory for the answers.
-#[derive(Clone, Copy)]
+#[derive(Clone, Copy, PartialEq, Eq, Debug)]
 pub enum RunFault {
     Refused(Refusal),
     NoMemory,
 }
 
-// The answer of a call.
-fn answer_of(outcome: Result<u32, Refusal>) -> Answer
-    ensures { result ≡ answer_with outcome }
-{
-    match outcome {
-        Ok(number) => Answer::Done(number),
-        Err(refusal) => Answer::Refused(refusal),
+impl fmt::Display for RunFault {
+    ghost output = { λ fault. Some (fault_text fault) };
+
+    fn fmt<W: fmt::Write>(&self, f: &mut fmt::Formatter<W>) -> fmt::Result {
+        match self {
+            RunFault::Refused(refusal) => write!(f, "{refusal}"),
+            RunFault::NoMemory => write!(f, "no memory for the answers"),
+        }
+    }
+}
+
+impl Error for RunFault {}
+
+impl From<Refusal> for RunFault {
+    ghost from_gives = { λ refusal fault. fault ≡ Refused refusal };
+
+    fn from(refusal: Refusal) -> RunFault {
+        Self::Refused(refusal)
+    }
+}
+
+impl From<AllocError> for RunFault {
+    ghost from_gives = { λ _ fault. fault ≡ NoMemory };
+
+    fn from(_failed: AllocError) -> RunFault {
+        Self::NoMemory
     }
 }
 
@@ -52,6 +76,18 @@ impl Job {
         }
     }
 
+    // Makes one call that is given as a value. Refuses as the call's own method does.
+    pub fn carry_out(
+        &mut self,
+        file: &mut [u8],
+        shelves: &mut Shelves<'_>,
+        call: Call<'_>,
+    ) -> Result<u32, Refusal>
+        ensures { Called (deed_of call.entry) self.old file.old shelves.old result self.new file.new shelves.new }
+    {
+        self.call(file, shelves, call, false)
+    }
+
     // Makes the calls in order, and puts their answers behind those in the Vec, which has room for them.
     fn call_all(
         &mut self,
@@ -66,8 +102,7 @@ impl Job {
         ensures { AllDone (map deed_of calls.now) (state_of self.old file.old shelves.old) answers.old.items (state_of self.new file.new shelves.new) answers.new.items }
     {
         for call in calls {
-            let answer = answer_of(self.call(file, shelves, *call, known));
-            answers.push_reserved(answer);
+            answers.push_reserved(self.call(file, shelves, *call, known));
         }
     }
 }
@@ -96,16 +131,10 @@ pub fn run<F: Family>(
     ensures ran { Ran (record { file = file.old; number = number; row_bytes = F.row_bytes family.now; rows = F.rows family.now; shelves = shelves.old; calls = map deed_of calls.now; old = answers.old.items }) (vec_len answers.old) (vec_capacity answers.old) job.old result job.new file.new shelves.new answers.new.items }
     ensures unspent { IfOk result (λ docket. docket.spent ≡ false) }
 {
-    let mut opened = Job::empty();
-    let docket = match opened.open_with(file, number, family) {
-        Ok(docket) => docket,
-        Err(refusal) => return Err(RunFault::Refused(refusal)),
-    };
-    if let Err(_) = answers.reserve(calls.len()) {
-        let _ = docket.spend();
-        return Err(RunFault::NoMemory);
-    }
+    let layout = Layout::read_with(head_of(file), file.len() as u64, family)?;
+    answers.reserve(calls.len())?;
+    let mut opened = Job::fresh(layout, Some(number));
     opened.call_all(file, shelves, calls, shelves.are_empty(), answers);
     *job = opened;
-    Ok(docket)
+    Ok(Docket::of(number))
 }

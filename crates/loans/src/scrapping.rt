@@ -17,7 +17,7 @@ impl Job {
         requires { AtHome (state_of self.old file.old shelves.old) }
         ensures { state_of self.new file.new shelves.new ≡ all_cancelled (book_of self.old).outs (state_of self.old file.old shelves.old) }
     {
-        while self.ledger().out > 0 {
+        while self.ledger.out > 0 {
             let first = self.loan_at(0).number;
             let _ = self.cancel_on(file, shelves, first, true);
         }
@@ -34,7 +34,7 @@ pub fn scrap(
 ) -> Result<Report, Refusal>
     ensures { Scrapped docket job.old file.old shelves.old result job.new file.new shelves.new }
 {
-    if job.ledger().number != Some(docket.spend()) {
+    if job.ledger.number != Some(docket.spend()) {
         return Err(Refusal::OtherDocket);
     }
     if !job.has_length(file) {

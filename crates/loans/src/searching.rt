@@ -8,10 +8,5 @@ use crate::ledger::Loan;
 pub(crate) fn position_of(loans: &[Loan], number: u32) -> Option<usize>
     ensures { Found loans.now number result }
 {
-    for (position, loan) in loans.iter().enumerate() {
-        if loan.number == number {
-            return Some(position);
-        }
-    }
-    None
+    loans.iter().position(|loan| loan.number == number)
 }

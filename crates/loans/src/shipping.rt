@@ -8,6 +8,7 @@ use crate::ledger::Report;
 use refusal::Refusal;
 
 // A docket that could not be spent comes back with the refusal.
+#[derive(PartialEq, Eq, Debug)]
 pub struct Unspent {
     pub docket: Docket,
     pub refusal: Refusal,
@@ -19,13 +20,13 @@ pub fn ship(docket: Docket, job: &mut Job) -> Result<Report, Unspent>
     ensures shipped { Shipped docket job.old result job.new }
     ensures same { IfErr result (λ unspent. unspent.docket ≡ docket) }
 {
-    if job.ledger().number != Some(docket.number()) {
+    if job.ledger.number != Some(docket.number()) {
         return Err(Unspent {
             docket,
             refusal: Refusal::OtherDocket,
         });
     }
-    if job.ledger().out > 0 {
+    if job.ledger.out > 0 {
         return Err(Unspent {
             docket,
             refusal: Refusal::LoansOut,

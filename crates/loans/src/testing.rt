@@ -42,10 +42,7 @@ fn tally(loans: &[Loan], marks: &[Mark], covered: usize) -> Option<[u32; 32]>
     let mut left = covered;
     for mark in marks {
         let position = sound_position(loans, *mark)?;
-        if mark.length > left {
-            return None;
-        }
-        left -= mark.length;
+        left = left.checked_sub(mark.length)?;
         counts[position] += 1;
     }
     if left > 0 {
@@ -59,12 +56,10 @@ fn do_agree(loans: &[Loan], counts: &[u32]) -> bool
     requires { length loans.now ≤ length counts.now }
     ensures { result ≡ agree loans.now counts.now }
 {
-    for (position, loan) in loans.iter().enumerate() {
-        if loan.strokes != counts[position] {
-            return false;
-        }
-    }
-    true
+    loans
+        .iter()
+        .zip(counts)
+        .all(|(loan, count)| loan.strokes == *count)
 }
 
 impl Job {
@@ -72,14 +67,13 @@ impl Job {
     pub(crate) fn owns(&self, shelves: &Shelves<'_>) -> bool
         ensures { result ≡ are_ours (book_of self.now) (stock_of shelves.now) }
     {
-        let ledger = self.ledger();
         let marks = shelves.marks().elements();
         let covered = shelves.bytes().count();
-        if marks.len() != ledger.marks || covered != ledger.bytes {
+        if marks.len() != self.ledger.marks || covered != self.ledger.bytes {
             return false;
         }
-        match tally(ledger.outs(), marks, covered) {
-            Some(counts) => do_agree(ledger.outs(), &counts),
+        match tally(self.outs(), marks, covered) {
+            Some(counts) => do_agree(self.outs(), &counts),
             None => false,
         }
     }

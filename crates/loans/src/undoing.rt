@@ -31,10 +31,8 @@ fn newest_of(marks: &[Mark], covered: usize, loan: u32) -> Option<Newest>
     requires { lengths marks.now ≡ covered }
     ensures { FoundNewest marks.now loan result }
 {
-    let mut position = marks.len();
     let mut begin = covered;
-    while position > 0 {
-        position -= 1;
+    for position in (0..marks.len()).rev() {
         let mark = marks[position];
         begin -= mark.length;
         if mark.loan == loan {
@@ -75,10 +73,8 @@ impl Job {
     {
         let position = self.held(file, shelves, loan, borrower, known)?;
         let marks = shelves.marks().elements();
-        match newest_of(marks, shelves.bytes().count(), loan) {
-            Some(newest) => Ok(Last { position, newest }),
-            None => Err(Refusal::NothingToUndo),
-        }
+        let newest = newest_of(marks, shelves.bytes().count(), loan).ok_or(Refusal::NothingToUndo)?;
+        Ok(Last { position, newest })
     }
 
     // Takes a stroke back; see `undo`.

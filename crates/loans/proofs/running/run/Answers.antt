@@ -1,36 +1,31 @@
-use Rattle.std.proofs.Common.{List, ◌++◌, map, vec_items, refl, ap, ◌∙◌, arith}
+use Rattle.std.proofs.Common.{ℕ, List, length, map, Ok, Err, vec_items, refl, subst, arith}
 use Rattle.std.proofs.lemmas.List.{length-map}
-use Rattle.loans.specs.declared.call.Answer.{Answer}
-use Rattle.loans.specs.Strokes.{state_of}
-use Rattle.loans.specs.Rules.{deed_of, answers_to}
-use Rattle.loans.proofs.RunMade.{opened_along, run_made}
+use Rattle.std.proofs.lemmas.Result.{err_from_is_err_and}
+use Rattle.dds.specs.Layouts.{Opened}
+use Rattle.loans.specs.Rules.{deed_of}
+use Rattle.loans.proofs.RunMade.{made_job, opened_along, run_made}
 use Rattle.loans.proofs.running.run.Goals as goal
 
-pub returns-in-Err-reserve-clause-ran : goal.returns-in-Err-reserve-clause-ran
-returns-in-Err-reserve-clause-ran g c = (
-  (c.open_with.new.self.layout, c.in-Ok.ensures.opened.1),
-  omega (arith, c.in-Err-reserve.ensures.full, length-map c.args.calls.now deed_of),
-  (refl, refl, refl, c.in-Err-reserve.ensures.items),
-)
+pub returns-in_err-layout-clause-ran : goal.returns-in_err-layout-clause-ran
+returns-in_err-layout-clause-ran g c =
+    let p = err_from_is_err_and c.from_residual.result c.from_residual.ensures.1 in
+    rw (p.1, p.2) (
+      subst (λ (h : List ℕ). Opened h (length c.args.file.now) (g.F.Family.row_bytes c.args.family.now) (g.F.Family.rows c.args.family.now) (Err c.in_err-layout.field-0.0)) c.head_of.ensures c.in_err-layout.ensures,
+      (refl, refl, refl, refl),
+    )
 
-pub call_all-requires : goal.call_all-requires
-call_all-requires g c = record {
-  room = c.in_default.ensures.ok;
-  along = opened_along (record {
-    file = c.args.file.now;
-    number = c.args.number;
-    row_bytes = g.F.Family.row_bytes c.args.family.now;
-    rows = g.F.Family.rows c.args.family.now;
-    shelves = c.args.shelves.now;
-    calls = map deed_of c.args.calls.now;
-    old = vec_items c.args.answers.now;
-  }) c.in-Ok.docket c.open_with.new.self
-      (record { docket = c.in-Ok.ensures.opened.0; opened = c.in-Ok.ensures.opened.1; book = c.in-Ok.ensures.opened.2 }) c.are_empty.result c.are_empty.ensures;
-}
+pub returns-in_err-reserve-clause-ran : goal.returns-in_err-reserve-clause-ran
+returns-in_err-reserve-clause-ran g c =
+    let p = err_from_is_err_and c.from_residual-in_err-reserve.result c.from_residual-in_err-reserve.ensures.1 in
+    rw (p.1, p.2) (
+      (c.in_ok-layout.layout, subst (λ (h : List ℕ). Opened h (length c.args.file.now) (g.F.Family.row_bytes c.args.family.now) (g.F.Family.rows c.args.family.now) (Ok c.in_ok-layout.layout)) c.head_of.ensures c.in_ok-layout.ensures),
+      omega (arith, c.in_err-reserve.ensures.full, length-map c.args.calls.now deed_of),
+      (refl, refl, refl, c.in_err-reserve.ensures.items),
+    )
 
-pub returns-clause-ran : goal.returns-clause-ran
-returns-clause-ran g c =
-    run_made (record {
+pub call_all-requires-clause-along : goal.call_all-requires-clause-along
+call_all-requires-clause-along g c =
+    opened_along (record {
       file = c.args.file.now;
       number = c.args.number;
       row_bytes = g.F.Family.row_bytes c.args.family.now;
@@ -38,6 +33,12 @@ returns-clause-ran g c =
       shelves = c.args.shelves.now;
       calls = map deed_of c.args.calls.now;
       old = vec_items c.args.answers.now;
-    }) c.in-Ok.docket c.open_with.new.self
-    (record { docket = c.in-Ok.ensures.opened.0; opened = c.in-Ok.ensures.opened.1; book = c.in-Ok.ensures.opened.2 })
-    _ _ (record { answers = c.call_all.ensures.answers ∙ ap (λ (old : List Answer). old ++ answers_to (state_of c.open_with.new.self c.args.file.now c.args.shelves.now) (map deed_of c.args.calls.now)) c.in_default.ensures.items; state = c.call_all.ensures.state })
+    }) c.fresh-opened.result
+    (made_job _ c.fresh-opened.result c.in_ok-layout.layout c.head_of.result.now c.head_of.ensures c.in_ok-layout.ensures c.fresh-opened.ensures.layout c.fresh-opened.ensures.book)
+    c.are_empty.result c.are_empty.ensures
+
+pub returns-clause-ran : goal.returns-clause-ran
+returns-clause-ran g c =
+    run_made _ c.fresh-opened.result
+    (made_job _ c.fresh-opened.result c.in_ok-layout.layout c.head_of.result.now c.head_of.ensures c.in_ok-layout.ensures c.fresh-opened.ensures.layout c.fresh-opened.ensures.book)
+    c.of.result c.of.ensures.number _ _ _ c.in_ok-reserve.ensures.items c.call_all.ensures

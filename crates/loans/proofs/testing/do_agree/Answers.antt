@@ -1,21 +1,12 @@
-use Rattle.std.proofs.Common.{◌+◌, ◌&&◌, drop, sym, ap, ◌∙◌}
-use Rattle.std.proofs.lemmas.List.{at_drop_all}
-use Rattle.std.proofs.lemmas.Bool.{and_left, eq-eqb, ne_eqb}
-use Rattle.loans.specs.Tallies.{agree}
-use Rattle.loans.proofs.Tallying.{agree_step}
+use Rattle.std.proofs.Common.{ℕ, eqb, ◌∙◌, rules, tests}
+use Rattle.std.proofs.lemmas.Iterator.{YieldsList-from_slice, YieldsList-from_zip}
+use Rattle.std.proofs.lemmas.Iterator.Search.{all_from_yields_List}
+use Rattle.loans.specs.declared.ledger.Loan.{Loan}
+use Rattle.loans.proofs.Tallying.{agree_all}
 use Rattle.loans.proofs.testing.do_agree.Goals as goal
-
-pub returns-then-loan-counts : goal.returns-then-loan-counts
-returns-then-loan-counts c =
-    let step = agree_step c.args.loans.now c.args.counts.now c.loop-position.position c.loop-position-test.true c.requires in
-    sym (sym c.loop-position.invariant ∙ step ∙ and_left _ _ (ne_eqb _ _ c.if-loan-counts.true))
-
-pub loop-position-preserved : goal.loop-position-preserved
-loop-position-preserved c =
-    let step = agree_step c.args.loans.now c.args.counts.now c.loop-position.position c.loop-position-test.true c.requires in
-    sym (step ∙ ap (λ b. b && agree (drop (c.loop-position.position + 1) c.args.loans.now) (drop (c.loop-position.position + 1) c.args.counts.now)) (eq-eqb _ _ c.if-loan-counts.false)) ∙ c.loop-position.invariant
 
 pub returns : goal.returns
 returns c =
-    sym (sym c.loop-position.invariant
-    ∙ at_drop_all (λ ls. agree ls (drop c.loop-position.position c.args.counts.now)) c.args.loans.now c.loop-position.position c.loop-position-test.false)
+    all_from_yields_List (λ (p : Loan × ℕ). eqb p.0.strokes p.1) c.all.new.self _ _ c.all.ensures.ran
+    (YieldsList-from_zip (YieldsList-from_slice c.args.loans.now cc) (YieldsList-from_slice c.args.counts.now cc)) (λ x b q k. search (rules, tests))
+    ∙ agree_all c.args.loans.now c.args.counts.now c.requires

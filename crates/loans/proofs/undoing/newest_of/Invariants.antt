@@ -3,6 +3,3 @@ use Rattle.loans.proofs.undoing.newest_of.Given as goal
 
 abbrev pub invariant-loop-position : goal.invariant-loop-position
 invariant-loop-position l = Unfound l.marks l.loan l.position l.begin
-
-abbrev pub decreases-loop-position : goal.decreases-loop-position
-decreases-loop-position l = l.position

@@ -1,4 +1,4 @@
-use Rattle.std.proofs.Common.{get_or, vec_items, vec_len, vec_capacity, ◌∙◌}
+use Rattle.std.proofs.Common.{get_or, vec_items, vec_len, vec_capacity}
 use Rattle.loans.specs.Strokes.{state_of}
 use Rattle.loans.specs.Rules.{deed_of}
 use Rattle.loans.proofs.Calling.{called_answer, called_state, along_ours, along_all, along_one}
@@ -14,9 +14,9 @@ pub loop-call-preserved : goal.loop-call-preserved
 loop-call-preserved c =
     along_one (state_of c.args.self.now c.args.file.now c.args.shelves.now) (state_of c.loop-call.self c.loop-call.file c.loop-call.shelves) c.args.calls.now c.loop-call.call-index
     (vec_items c.args.answers.now) (vec_items c.loop-call.answers) (vec_len c.loop-call.answers) (vec_capacity c.loop-call.answers) c.loop-call.invariant
-    c.loop-call-test.true _ (state_of c.call.new.self c.call.new.file c.call.new.shelves) c.answer_of-answer.result
+    c.loop-call-test.true _ (state_of c.call.new.self c.call.new.file c.call.new.shelves) c.call.result
     (vec_items c.push_reserved.new.self) (vec_len c.push_reserved.new.self) (vec_capacity c.push_reserved.new.self)
-    (c.answer_of-answer.ensures ∙ called_answer (deed_of (get_or c.args.calls.now c.loop-call.call-index _)) c.loop-call.self c.call.new.self c.loop-call.file c.call.new.file c.loop-call.shelves c.call.new.shelves c.call.result c.call.ensures)
+    (called_answer (deed_of (get_or c.args.calls.now c.loop-call.call-index _)) c.loop-call.self c.call.new.self c.loop-call.file c.call.new.file c.loop-call.shelves c.call.new.shelves c.call.result c.call.ensures)
     (called_state (deed_of (get_or c.args.calls.now c.loop-call.call-index _)) c.loop-call.self c.call.new.self c.loop-call.file c.call.new.file c.loop-call.shelves c.call.new.shelves c.call.result c.call.ensures)
     c.push_reserved.ensures.items c.push_reserved.ensures.len c.push_reserved.ensures.capacity
 

@@ -1,35 +1,28 @@
-use Rattle.std.proofs.Common.{◌≡◌, ℕ, List, length, sym, ap, ◌∙◌, ap₂, subst₂}
+use Rattle.std.proofs.Common.{◌≡◌, ℕ, List, length, sym, ◌∙◌, subst, ap₂, subst₂}
 use Rattle.std.proofs.lemmas.Bool.{eqb-true}
-use Rattle.loans.specs.declared.ledger.Ledger.{Ledger}
 use Rattle.loans.specs.declared.mark.Mark.{Mark}
-use Rattle.loans.specs.Stocks.{stock_of, lengths}
-use Rattle.loans.specs.Jobs.{book_of}
+use Rattle.loans.specs.Stocks.{stock_of}
+use Rattle.loans.specs.Books.{outs}
+use Rattle.loans.specs.Finding.{Found}
 use Rattle.loans.specs.Ending.{InFile, restored}
-use Rattle.loans.proofs.Allowed.{ours}
 use Rattle.loans.proofs.Undone.{marks_in_file}
 use Rattle.loans.proofs.Endings.{cancel_carried}
 use Rattle.loans.proofs.job.Job.cancel_on.Goals as goal
 
-pub restore-requires : goal.restore-requires
-restore-requires c =
-    let s = c.args.self.now in
-    let v = c.args.shelves.now in
-    let e = sym c.if-not-owns_or_knows.ensures in
-    let sized : length c.args.file.now ≡ s.layout.table.length = eqb-true _ _ (sym c.if-not-has_length.ensures) in
-    record {
-      covered = ap lengths c.elements.ensures.value ∙ (ours (book_of s) (stock_of v) e).covered ∙ sym (ap length c.elements-2.ensures.value);
-      inside = subst₂ (λ (n : ℕ) (ms : List Mark). InFile n ms) (sym sized) (sym c.elements.ensures.value) (marks_in_file s (stock_of v) e);
-    }
+pub restore-requires-clause-inside : goal.restore-requires-clause-inside
+restore-requires-clause-inside c =
+    let sized : length c.args.file.now ≡ c.args.self.now.layout.table.length = eqb-true _ _ (sym c.if-not-has_length.ensures) in
+    subst₂ (λ (n : ℕ) (ms : List Mark). InFile n ms) (sym sized) (sym c.elements.ensures.value)
+    (marks_in_file c.args.self.now (stock_of c.args.shelves.now) (sym c.if-not-owns_or_knows.ensures))
 
 pub returns : goal.returns
 returns c =
     cancel_carried {s = c.args.self.now} {t = c.end_loan.new.self} {v = c.args.shelves.now} {f = c.args.file.now} (record {
-      loan = c.in-Some.ensures;
+      loan = subst (Found (outs c.args.self.now.ledger) c.args.loan) c.in_ok-position.ensures.ok_part c.position_of.ensures;
       ours = sym c.if-not-owns_or_knows.ensures;
       shelves = c.drop_loan.ensures;
       layout = c.end_loan.ensures.layout;
       ledger = c.end_loan.ensures.ledger;
-      out = ap (λ (l : Ledger). l.out) c.ledger.ensures.value;
     })
     (eqb-true _ _ (sym c.if-not-has_length.ensures))
     (c.restore.ensures ∙ ap₂ (λ (ms : List Mark) (ks : List ℕ). restored c.args.loan c.args.file.now ms ks) c.elements.ensures.value c.elements-2.ensures.value)

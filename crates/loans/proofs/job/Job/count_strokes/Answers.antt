@@ -1,20 +1,17 @@
-use Rattle.std.proofs.Common.{◌≡◌, length, sym, ap, ◌∙◌, subst, arith}
-use Rattle.dds.specs.declared.layout.Layout.{Layout}
-use Rattle.loans.specs.declared.ledger.Ledger.{Ledger}
-use Rattle.loans.specs.Stocks.{stock_of}
-use Rattle.loans.specs.Writing.{ledger_counted}
+use Rattle.std.proofs.Common.{◌<◌, arith}
 use Rattle.loans.proofs.Counting.{out_count}
-use Rattle.loans.proofs.Recounting.{Ready, counted_ready}
+use Rattle.loans.proofs.Recounting.{counted_balanced, counted_inside, counted_given, counted_rising}
 use Rattle.loans.proofs.job.Job.count_strokes.Goals as goal
 
-pub of-requires : goal.of-requires
-of-requires c =
+pub invariant_of-self : goal.invariant_of-self
+invariant_of-self c =
     let s = c.args.self.now in
-    let same : s.layout.table.length ≡ c.layout.result.now.table.length = ap (λ (y : Layout). y.table.length) (sym c.layout.ensures) in
-    let ready : Ready s.layout.table.length s.ledger =
-    record { balanced = s.balanced; inside = s.inside; given = s.given; rising = s.rising } in
-    let r =
-    subst (λ n. Ready n c.counted-ledger.result) same
-    (counted_ready s.layout.table.length s.ledger c.counted-ledger.result c.args.position c.args.strokes _ _ ready (omega (arith, c.requires, out_count s.ledger s.balanced))
-    (c.counted-ledger.ensures ∙ ap (λ (l : Ledger). ledger_counted l c.args.position c.args.strokes (length (stock_of c.args.shelves.now).marks) (length (stock_of c.args.shelves.now).bytes)) c.ledger.ensures.value)) in
-    record { balanced = r.balanced; inside = r.inside; given = r.given; rising = r.rising }
+    let m = c.count.result in
+    let y = c.count-2.result in
+    let out : c.args.position < s.ledger.out = omega (arith, c.requires, out_count s.ledger s.balanced) in
+    record {
+      balanced = counted_balanced s.ledger s.balanced c.args.position c.args.strokes m y out;
+      inside = counted_inside s.ledger s.balanced c.args.position c.args.strokes m y out s.layout.table.length s.inside;
+      given = counted_given s.ledger s.balanced c.args.position c.args.strokes m y out s.given;
+      rising = counted_rising s.ledger s.balanced c.args.position c.args.strokes m y out s.rising;
+    }

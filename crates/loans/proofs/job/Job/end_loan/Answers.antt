@@ -1,23 +1,27 @@
-use Rattle.std.proofs.Common.{◌≡◌, length, sym, ap, ◌∙◌, subst, arith}
-use Rattle.dds.specs.declared.layout.Layout.{Layout}
-use Rattle.loans.specs.declared.ledger.Ledger.{Ledger}
-use Rattle.loans.specs.Stocks.{stock_of}
-use Rattle.loans.specs.Writing.{ledger_ended}
+use Rattle.std.proofs.Common.{◌≡◌, ◌<◌, sym, subst, arith, rules}
+use Rattle.loans.specs.Books.{Balanced, Inside, Given, Rising}
+use Rattle.loans.specs.Writing.{kept_by, cancelled_by, ledger_ended}
 use Rattle.loans.proofs.Counting.{out_count}
-use Rattle.loans.proofs.Recounting.{Ready}
-use Rattle.loans.proofs.Ended.{ended_ready}
+use Rattle.loans.proofs.Ended.{counts_one, ended_balanced, ended_inside, ended_given, ended_rising}
+use Rattle.loans.proofs.job.Job.end_loan.Goals.{in-Kept, in-Cancelled}
 use Rattle.loans.proofs.job.Job.end_loan.Goals as goal
 
-pub of-requires : goal.of-requires
-of-requires c =
+pub invariant_of-self : goal.invariant_of-self
+invariant_of-self c =
     let s = c.args.self.now in
-    let same : s.layout.table.length ≡ c.layout.result.now.table.length = ap (λ (y : Layout). y.table.length) (sym c.layout.ensures) in
-    let ready : Ready s.layout.table.length s.ledger =
-    record { balanced = s.balanced; inside = s.inside; given = s.given; rising = s.rising } in
-    let r =
-    subst (λ n. Ready n c.ended-ledger.result) same
-    (ended_ready s.layout.table.length s.ledger c.ended-ledger.result c.args.position c.args.kept c.args.cancelled _ _ ready
-    (omega (arith, c.requires.out, out_count s.ledger s.balanced)) c.requires.one
-    (c.ended-ledger.ensures
-    ∙ ap (λ (l : Ledger). ledger_ended l c.args.position c.args.kept c.args.cancelled (length (stock_of c.args.shelves.now).marks) (length (stock_of c.args.shelves.now).bytes)) c.ledger.ensures.value)) in
-    record { balanced = r.balanced; inside = r.inside; given = r.given; rising = r.rising }
+    let m = c.count.result in
+    let y = c.count-2.result in
+    let more = kept_by c.args.ending in
+    let less = cancelled_by c.args.ending in
+    let out : c.args.position < s.ledger.out = omega (arith, c.requires, out_count s.ledger s.balanced) in
+    let is : c.match-ending.ledger ≡ ledger_ended s.ledger c.args.position more less m y =
+    elim c.match-ending.branch [
+      | in-Kept w ↦ search rules
+      | in-Cancelled w ↦ search rules
+    ] in
+    record {
+      balanced = subst Balanced (sym is) (ended_balanced s.ledger s.balanced c.args.position more less m y out (counts_one c.args.ending));
+      inside = subst (Inside s.layout.table.length) (sym is) (ended_inside s.ledger s.balanced c.args.position more less m y out s.layout.table.length s.inside);
+      given = subst Given (sym is) (ended_given s.ledger s.balanced c.args.position more less m y out s.given);
+      rising = subst Rising (sym is) (ended_rising s.ledger s.balanced c.args.position more less m y out s.rising);
+    }

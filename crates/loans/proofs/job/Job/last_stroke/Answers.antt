@@ -1,12 +1,15 @@
-use Rattle.std.proofs.Common.{List, ap, ◌∙◌, subst}
+use Rattle.std.proofs.Common.{List, Option, ap, ◌∙◌, subst₂}
 use Rattle.shelf.specs.Model.{contents}
 use Rattle.loans.specs.declared.mark.Mark.{Mark}
-use Rattle.loans.specs.Taking.{NewestAt}
+use Rattle.loans.specs.declared.undoing.Newest.{Newest}
+use Rattle.loans.specs.Taking.{FoundNewest}
 use Rattle.loans.proofs.Undone.{undo_at}
 use Rattle.loans.proofs.job.Job.last_stroke.Goals as goal
 
-pub returns-in-Some : goal.returns-in-Some
-returns-in-Some c =
+pub returns : goal.returns
+returns c =
+    let found =
+    subst₂ (λ (ms : List Mark) (r : Option Newest). FoundNewest ms c.args.loan r) (c.elements-marks.ensures.value ∙ ap contents c.marks.ensures)
+    c.in_ok-newest.ensures.ok_part c.newest_of.ensures in
     undo_at c.args.self.now c.args.file.now c.args.shelves.now c.args.loan c.args.borrower c.in_ok-position.position
-    c.in-Some.newest.position c.in-Some.newest.begin c.in_ok-position.ensures
-    (subst (λ (ms : List Mark). NewestAt ms c.args.loan c.in-Some.newest.position c.in-Some.newest.begin) (c.elements-marks.ensures.value ∙ ap contents c.marks.ensures) c.in-Some.ensures)
+    c.in_ok-newest.newest.position c.in_ok-newest.newest.begin c.in_ok-position.ensures found
