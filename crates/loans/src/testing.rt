@@ -78,7 +78,8 @@ impl Job {
         }
     }
 
-    // The same, without a pass over the marks where it is known.
+    // The same, without a pass over the marks where it is known. What is known stands in a `requires` of each function: a type of job,
+    // file and shelves would owe it again after each call, where only the law over whole runs shows it, and a keep has no file.
     pub(crate) fn owns_or_knows(&self, shelves: &Shelves<'_>, known: bool) -> bool
         requires { OursWhere known (book_of self.now) (stock_of shelves.now) }
         ensures { result ≡ are_ours (book_of self.now) (stock_of shelves.now) }

@@ -1,9 +1,6 @@
 use Rattle.std.proofs.Common.{refl, rules}
-use Rattle.loans.proofs.Restored.{back_none, back_long, back_fits, back_other, back_one}
+use Rattle.loans.proofs.Restored.{back_long, back_fits, back_other, back_one}
 use Rattle.loans.proofs.ending.restore.Goals as goal
-
-pub loop-position-init : goal.loop-position-init
-loop-position-init c = back_none c.args.marks.now c.args.covered.now c.args.file.now c.args.loan c.requires.covered
 
 pub overflow_sub-begin : goal.overflow_sub-begin
 overflow_sub-begin c = back_long c.args.marks.now c.args.covered.now c.args.file.now c.loop-position.file c.args.loan c.loop-position.position c.loop-position.end c.loop-position.invariant c.loop-position-test.true c.requires.covered

@@ -1,10 +1,6 @@
-use Rattle.std.proofs.Common.{length, subst, arith}
-use Rattle.loans.proofs.Newest.{Unfound, unfound_all, long_enough, newest_here, unfound_before, unfound_none}
+use Rattle.std.proofs.Common.{arith}
+use Rattle.loans.proofs.Newest.{long_enough, newest_here, unfound_before, unfound_none}
 use Rattle.loans.proofs.undoing.newest_of.Goals as goal
-
-pub loop-position-init : goal.loop-position-init
-loop-position-init c =
-    subst (Unfound c.args.marks.now c.args.loan (length c.args.marks.now)) c.requires (unfound_all c.args.marks.now c.args.loan)
 
 pub overflow_sub-begin : goal.overflow_sub-begin
 overflow_sub-begin c = long_enough c.args.marks.now c.args.loan c.loop-position.position c.loop-position.begin c.loop-position.invariant c.loop-position-test.true

@@ -1,7 +1,7 @@
 use Rattle.std.proofs.Common.{get_or, vec_items, vec_len, vec_capacity}
 use Rattle.loans.specs.Strokes.{state_of}
 use Rattle.loans.specs.Rules.{deed_of}
-use Rattle.loans.proofs.Calling.{called_answer, called_state, along_ours, along_all, along_one}
+use Rattle.loans.proofs.Calling.{called_answer, called_state, along_ours, along_one}
 use Rattle.loans.proofs.job.Job.call_all.Goals as goal
 
 pub call-requires : goal.call-requires
@@ -19,9 +19,3 @@ loop-call-preserved c =
     (called_answer (deed_of (get_or c.args.calls.now c.loop-call.call-index _)) c.loop-call.self c.call.new.self c.loop-call.file c.call.new.file c.loop-call.shelves c.call.new.shelves c.call.result c.call.ensures)
     (called_state (deed_of (get_or c.args.calls.now c.loop-call.call-index _)) c.loop-call.self c.call.new.self c.loop-call.file c.call.new.file c.loop-call.shelves c.call.new.shelves c.call.result c.call.ensures)
     c.push_reserved.ensures.items c.push_reserved.ensures.len c.push_reserved.ensures.capacity
-
-pub returns : goal.returns
-returns c =
-    along_all (state_of c.args.self.now c.args.file.now c.args.shelves.now) (state_of c.loop-call.self c.loop-call.file c.loop-call.shelves) c.args.calls.now c.loop-call.call-index
-    (vec_items c.args.answers.now) (vec_items c.loop-call.answers) (vec_len c.loop-call.answers) (vec_capacity c.loop-call.answers) c.loop-call.invariant
-    c.loop-call-test.false
