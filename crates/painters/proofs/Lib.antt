@@ -1,1 +1,2 @@
 mod Painters
+mod Walks

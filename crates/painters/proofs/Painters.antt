@@ -1,15 +1,15 @@
 -- Which strokes stand, read from the newest call to the oldest.
-use Rattle.std.proofs.Common.{◌≡◌, ℕ, zero, suc, ◌+◌, ◌-◌, ◌<◌, ◌≤◌, min, Bool, true, false, cond, not, ◌&&◌, eqb, ◌⊎◌, List, [], ◌∷◌, ◌++◌, map, length, get_or, take, drop, Some, None, Option, sym, refl, ap, ◌∙◌, subst, inl, inr, ⊎_elim, arith}
-use Rattle.std.specs.List.{AllByRecursion}
+use Rattle.std.proofs.Common.{◌≡◌, ℕ, zero, suc, ◌+◌, ◌-◌, ◌<◌, ◌≤◌, min, Bool, true, false, cond, not, ◌&&◌, eqb, ◌⊎◌, List, [], ◌∷◌, ◌++◌, map, length, get_or, take, drop, Some, None, Ok, Err, Option, Result, sym, refl, ap, ◌∙◌, subst, inl, inr, ⊎_elim, arith}
+use Rattle.std.specs.List.{AllByRecursion, fold, zip}
 use Rattle.std.proofs.lemmas.List.{drop_more, at_drop_all}
+use Rattle.std.proofs.lemmas.List.Sums.{fold-append}
 use Rattle.std.proofs.lemmas.Bool.{true≢false, cases_lt, eqb-true, eq-eqb, ne_eqb, cond-true, cond-false}
+use Rattle.refusal.specs.declared.Refusal.{Refusal}
 use Rattle.dds.specs.declared.area.Area.{Area}
 use Rattle.dds.specs.declared.layout.Layout.{Layout}
 use Rattle.dds.specs.declared.piece.Piece.{Piece}
 use Rattle.dds.specs.declared.table.Table.{Table}
 use Rattle.dds.specs.Places.{exists_in, area_in}
-use Rattle.loans.specs.declared.call.Answer.{Answer}
-use Rattle.loans.specs.declared.call.Answer.TheVariants.{Done, Refused}
 use Rattle.loans.specs.declared.call.Call.{Call}
 use Rattle.loans.specs.declared.ledger.Loan.{Loan}
 use Rattle.painters.specs.declared.Painter.{Painter}
@@ -21,7 +21,7 @@ use Rattle.loans.specs.Rules.{Deed, deed_of}
 use Rattle.loans.specs.Rules.Deed.{lend, paint, undo, keep, cancel}
 use Rattle.loans.specs.History.{Event, Stroke, written_down, history_of, granting, lent, out_in, stroke_of, covers, laying, standing}
 use Rattle.loans.specs.Law.{OfPiece}
-use Rattle.painters.specs.Tracing.{newest_over, paid_off, owing_more, owes_nothing, owed_before, owed, unless_out, piece_after, piece_out, area_for, reach_over, painter_by, no_call, no_answer, past_of, painter_at, Newest, Traced}
+use Rattle.painters.specs.Tracing.{newest_over, paid_off, owing_more, owes_nothing, owed_before, owed, unless_out, piece_after, piece_out, area_for, reach_over, painter_by, no_call, no_answer, past_of, painter_at, IsNewest, Newest, Traced}
 use Rattle.loans.proofs.Outs.{out_less}
 use Rattle.loans.proofs.Searches.{some_append, first_none}
 use Rattle.loans.proofs.Runs.{law_run}
@@ -202,22 +202,22 @@ found_ended t n ls o m f = go (eqb m n) refl o f
         }
 
 -- loans that were granted before are among those granted
-pub pieces_before : (t : Table) (d : Deed) (r : Answer) (h : List Event) → AllByRecursion (OfPiece t) (lent t (record { call = d; answer = r } ∷ h)) → AllByRecursion (OfPiece t) (lent t h)
-pieces_before t d (Refused e) h a = a
-pieces_before t (lend p who) (Done x) h a = a.1
-pieces_before t (paint p) (Done x) h a = a
-pieces_before t (undo m who) (Done x) h a = a
-pieces_before t (keep m) (Done x) h a = a
-pieces_before t (cancel m) (Done x) h a = a
+pub pieces_before : (t : Table) (d : Deed) (r : Result ℕ Refusal) (h : List Event) → AllByRecursion (OfPiece t) (lent t (record { call = d; answer = r } ∷ h)) → AllByRecursion (OfPiece t) (lent t h)
+pieces_before t d (Err e) h a = a
+pieces_before t (lend p who) (Ok x) h a = a.1
+pieces_before t (paint p) (Ok x) h a = a
+pieces_before t (undo m who) (Ok x) h a = a
+pieces_before t (keep m) (Ok x) h a = a
+pieces_before t (cancel m) (Ok x) h a = a
 
-found_after : (t : Table) (n : ℕ) (d : Deed) (r : Answer) (h : List Event) → AllByRecursion (OfPiece t) (lent t (record { call = d; answer = r } ∷ h))
+found_after : (t : Table) (n : ℕ) (d : Deed) (r : Result ℕ Refusal) (h : List Event) → AllByRecursion (OfPiece t) (lent t (record { call = d; answer = r } ∷ h))
     → PieceFound t n (out_in t h) (piece_out n h) → PieceFound t n (out_in t (record { call = d; answer = r } ∷ h)) (piece_after n (piece_out n h) d r)
-found_after t n d (Refused e) h a f = f
-found_after t n (lend p who) (Done x) h a f = found_lent t n (out_in t h) (piece_out n h) x p who a.0.0 f
-found_after t n (paint p) (Done x) h a f = f
-found_after t n (undo m who) (Done x) h a f = f
-found_after t n (keep m) (Done x) h a f = found_ended t n (out_in t h) (piece_out n h) m f
-found_after t n (cancel m) (Done x) h a f = found_ended t n (out_in t h) (piece_out n h) m f
+found_after t n d (Err e) h a f = f
+found_after t n (lend p who) (Ok x) h a f = found_lent t n (out_in t h) (piece_out n h) x p who a.0.0 f
+found_after t n (paint p) (Ok x) h a f = f
+found_after t n (undo m who) (Ok x) h a f = f
+found_after t n (keep m) (Ok x) h a f = found_ended t n (out_in t h) (piece_out n h) m f
+found_after t n (cancel m) (Ok x) h a f = found_ended t n (out_in t h) (piece_out n h) m f
 
 found : (t : Table) (n : ℕ) (h : List Event) → AllByRecursion (OfPiece t) (lent t h) → PieceFound t n (out_in t h) (piece_out n h)
 found t n [] a = refl
@@ -241,19 +241,19 @@ newest_first s ss place false true e = refl
 newest_first s ss place false false e = refl
 
 -- one call further back
-pub walk_one : (t : Table) (opening : List ℕ) (h : List Event) (o : Owes) (place : ℕ) (d : Deed) (r : Answer) → AllByRecursion (OfPiece t) (lent t h)
+pub walk_one : (t : Table) (opening : List ℕ) (h : List Event) (o : Owes) (place : ℕ) (d : Deed) (r : Result ℕ Refusal) → AllByRecursion (OfPiece t) (lent t h)
     → newest_over (survivors o (standing t opening (record { call = d; answer = r } ∷ h))) place
     ≡ or_else (painter_by t (λ n. piece_out n h) o place d r) (newest_over (survivors (λ m. owed_before m (o m) d r) (standing t opening h)) place)
-walk_one t opening h o place d (Refused e) a = refl
-walk_one t opening h o place (lend p who) (Done x) a = refl
-walk_one t opening h o place (paint p) (Done x) a =
+walk_one t opening h o place d (Err e) a = refl
+walk_one t opening h o place (lend p who) (Ok x) a = refl
+walk_one t opening h o place (paint p) (Ok x) a =
     newest_first (laying opening (out_in t h) (standing t opening h) p) (survivors (pay p.loan o) (standing t opening h)) place (owes_nothing (o p.loan)) _
     (ap (λ (v : Area). reach_over (stroke_place v p) (length p.laid) place) (area_is t p.loan (out_in t h) (piece_out p.loan h) (found t p.loan h a)))
-walk_one t opening h o place (undo m who) (Done x) a = ap (λ ss. newest_over ss place) (survive_undo m o (standing t opening h))
-walk_one t opening h o place (keep m) (Done x) a = refl
-walk_one t opening h o place (cancel m) (Done x) a = ap (λ ss. newest_over ss place) (survive_cancel m o (standing t opening h))
+walk_one t opening h o place (undo m who) (Ok x) a = ap (λ ss. newest_over ss place) (survive_undo m o (standing t opening h))
+walk_one t opening h o place (keep m) (Ok x) a = refl
+walk_one t opening h o place (cancel m) (Ok x) a = ap (λ ss. newest_over ss place) (survive_cancel m o (standing t opening h))
 
-written_more : (h : List Event) (cs : List Call) (rs : List Answer) (k : ℕ) (dc : Call) (dr : Answer) → k < length cs → k < length rs
+written_more : (h : List Event) (cs : List Call) (rs : List (Result ℕ Refusal)) (k : ℕ) (dc : Call) (dr : Result ℕ Refusal) → k < length cs → k < length rs
     → written_down h (map deed_of (take (suc k) cs)) (take (suc k) rs)
     ≡ record { call = deed_of (get_or cs k dc); answer = get_or rs k dr } ∷ written_down h (map deed_of (take k cs)) (take k rs)
 written_more h [] rs k dc dr i j = absurd (omega arith)
@@ -261,21 +261,47 @@ written_more h (c ∷ cs) [] k dc dr i j = absurd (omega arith)
 written_more h (c ∷ cs) (r ∷ rs) zero dc dr i j = refl
 written_more h (c ∷ cs) (r ∷ rs) (suc k) dc dr i j = written_more (record { call = deed_of c; answer = r } ∷ h) cs rs k dc dr (omega arith) (omega arith)
 
-pub past_more : (cs : List Call) (rs : List Answer) (k : ℕ) (dc : Call) (dr : Answer) → k < length cs → k < length rs
+pub past_more : (cs : List Call) (rs : List (Result ℕ Refusal)) (k : ℕ) (dc : Call) (dr : Result ℕ Refusal) → k < length cs → k < length rs
     → past_of cs rs (k + 1) ≡ record { call = deed_of (get_or cs k dc); answer = get_or rs k dr } ∷ past_of cs rs k
 past_more cs rs k dc dr i j =
     let one : suc k ≡ k + 1 = omega arith in
     subst (λ x. past_of cs rs x ≡ record { call = deed_of (get_or cs k dc); answer = get_or rs k dr } ∷ past_of cs rs k) one (written_more [] cs rs k dc dr i j)
 
+-- what a walk over pairs of a call and its answer finds out, and what is found out of their history
+abbrev pub folded : ℕ → List (Call × Result ℕ Refusal) → Option Piece
+folded n ps = fold (λ o p. piece_after n o (deed_of p.0) p.1) None ps
+
+pub folded_more : (n : ℕ) (ps : List (Call × Result ℕ Refusal)) (o : Option Piece) (c : Call) (r : Result ℕ Refusal) (o' : Option Piece) → o ≡ folded n ps
+    → o' ≡ piece_after n o (deed_of c) r → o' ≡ folded n (ps ++ (c, r) ∷ [])
+folded_more n ps o c r o' e f =
+    f ∙ ap (λ x. piece_after n x (deed_of c) r) e ∙ sym (fold-append (λ x (p : Call × Result ℕ Refusal). piece_after n x (deed_of p.0) p.1) None ps ((c, r) ∷ []))
+
+piece_written : (n : ℕ) (h : List Event) (cs : List Call) (rs : List (Result ℕ Refusal)) (k : ℕ)
+    → fold (λ o (p : Call × Result ℕ Refusal). piece_after n o (deed_of p.0) p.1) (piece_out n h) (take k (zip cs rs))
+    ≡ piece_out n (written_down h (map deed_of (take k cs)) (take k rs))
+piece_written n h cs rs zero = refl
+piece_written n h [] rs (suc k) = refl
+piece_written n h (c ∷ cs) [] (suc k) = refl
+piece_written n h (c ∷ cs) (r ∷ rs) (suc k) = piece_written n (record { call = deed_of c; answer = r } ∷ h) cs rs k
+
+pub piece_folded : (n k : ℕ) (cs : List Call) (rs : List (Result ℕ Refusal)) (o : Option Piece) → o ≡ folded n (take k (zip cs rs))
+    → o ≡ piece_out n (history_of (map deed_of (take k cs)) (take k rs))
+piece_folded n k cs rs o e = e ∙ piece_written n [] cs rs k
+
 -- a position behind the calls or behind the answers
-abbrev pub Behind : List Call → List Answer → ℕ → Type 0
+abbrev pub Behind : List Call → List (Result ℕ Refusal) → ℕ → Type 0
 Behind cs rs k = (length cs ≤ k) ⊎ (length rs ≤ k)
 
-behind_less : (c : Call) (r : Answer) (cs : List Call) (rs : List Answer) (k : ℕ) → Behind (c ∷ cs) (r ∷ rs) (suc k) → Behind cs rs k
+-- the first of the calls or answers that end
+pub shorter : (cs : List Call) (rs : List (Result ℕ Refusal)) (k : ℕ) → k ≡ min (length cs) (length rs) → Behind cs rs k
+shorter cs rs k e =
+    ⊎_elim (λ (less : k < length cs). inr (omega (arith, e))) (λ (more : length cs ≤ k). inl more) (cases_lt k (length cs))
+
+behind_less : (c : Call) (r : Result ℕ Refusal) (cs : List Call) (rs : List (Result ℕ Refusal)) (k : ℕ) → Behind (c ∷ cs) (r ∷ rs) (suc k) → Behind cs rs k
 behind_less c r cs rs k (inl h) = inl (omega arith)
 behind_less c r cs rs k (inr h) = inr (omega arith)
 
-written_all : (h : List Event) (cs : List Call) (rs : List Answer) (k : ℕ) → Behind cs rs k
+written_all : (h : List Event) (cs : List Call) (rs : List (Result ℕ Refusal)) (k : ℕ) → Behind cs rs k
     → written_down h (map deed_of (take k cs)) (take k rs) ≡ written_down h (map deed_of cs) rs
 written_all h [] rs zero b = refl
 written_all h [] rs (suc k) b = refl
@@ -285,7 +311,7 @@ written_all h (c ∷ cs) (r ∷ rs) zero (inl b) = absurd (omega arith)
 written_all h (c ∷ cs) (r ∷ rs) zero (inr b) = absurd (omega arith)
 written_all h (c ∷ cs) (r ∷ rs) (suc k) b = written_all (record { call = deed_of c; answer = r } ∷ h) cs rs k (behind_less c r cs rs k b)
 
-pub past_all : (cs : List Call) (rs : List Answer) (k : ℕ) → Behind cs rs k → past_of cs rs k ≡ history_of (map deed_of cs) rs
+pub past_all : (cs : List Call) (rs : List (Result ℕ Refusal)) (k : ℕ) → Behind cs rs k → past_of cs rs k ≡ history_of (map deed_of cs) rs
 past_all cs rs k b = written_all [] cs rs k b
 
 -- what is owed from a position on
@@ -293,11 +319,11 @@ owed_nil : (n : ℕ) (cs : List Call) → owed n cs [] ≡ Some 0
 owed_nil n [] = refl
 owed_nil n (c ∷ cs) = refl
 
-pub owed_all : (n : ℕ) (cs : List Call) (rs : List Answer) (k : ℕ) → Behind cs rs k → owed n (drop k cs) (drop k rs) ≡ Some 0
+pub owed_all : (n : ℕ) (cs : List Call) (rs : List (Result ℕ Refusal)) (k : ℕ) → Behind cs rs k → owed n (drop k cs) (drop k rs) ≡ Some 0
 owed_all n cs rs k (inl h) = at_drop_all (λ xs. owed n xs (drop k rs)) cs k h
 owed_all n cs rs k (inr h) = at_drop_all (λ xs. owed n (drop k cs) xs) rs k h ∙ owed_nil n (drop k cs)
 
-pub owed_more : (n : ℕ) (cs : List Call) (rs : List Answer) (k : ℕ) (dc : Call) (dr : Answer) → k < length cs → k < length rs
+pub owed_more : (n : ℕ) (cs : List Call) (rs : List (Result ℕ Refusal)) (k : ℕ) (dc : Call) (dr : Result ℕ Refusal) → k < length cs → k < length rs
     → owed n (drop k cs) (drop k rs) ≡ owed_before n (owed n (drop (k + 1) cs) (drop (k + 1) rs)) (deed_of (get_or cs k dc)) (get_or rs k dr)
 owed_more n cs rs k dc dr i j =
     ap (λ xs. owed n xs (drop k rs)) (drop_more cs k dc i) ∙ ap (λ xs. owed n (get_or cs k dc ∷ drop (k + 1) cs) xs) (drop_more rs k dr j)
@@ -307,24 +333,21 @@ abbrev is_some : Option ℕ → Bool
 is_some None = false
 is_some (Some k) = true
 
-is_some_lem : (a b : ℕ) {z : ℕ} → Some b ≡ Some a → a ≤ z → b ≤ z
-is_some_lem a b e h = let same : b ≡ a = cc in omega arith
+gone_before : (n : ℕ) (d : Deed) (r : Result ℕ Refusal) → owed_before n None d r ≡ None
+gone_before n d (Err e) = refl
+gone_before n (lend p who) (Ok x) = refl
+gone_before n (paint p) (Ok x) = refl
+gone_before n (undo m who) (Ok x) = refl
+gone_before n (keep m) (Ok x) = refl
+gone_before n (cancel m) (Ok x) = elim (eqb m n) as (λ b. cond {A = Option ℕ} b None None ≡ None) [ true ↦ refl | false ↦ refl ]
 
-gone_before : (n : ℕ) (d : Deed) (r : Answer) → owed_before n None d r ≡ None
-gone_before n d (Refused e) = refl
-gone_before n (lend p who) (Done x) = refl
-gone_before n (paint p) (Done x) = refl
-gone_before n (undo m who) (Done x) = refl
-gone_before n (keep m) (Done x) = refl
-gone_before n (cancel m) (Done x) = elim (eqb m n) as (λ b. cond {A = Option ℕ} b None None ≡ None) [ true ↦ refl | false ↦ refl ]
-
-gone_all : (n : ℕ) (cs : List Call) (rs : List Answer) (k : ℕ) → owed n (drop k cs) (drop k rs) ≡ None → owed n cs rs ≡ None
+gone_all : (n : ℕ) (cs : List Call) (rs : List (Result ℕ Refusal)) (k : ℕ) → owed n (drop k cs) (drop k rs) ≡ None → owed n cs rs ≡ None
 gone_all n cs rs zero e = e
 gone_all n [] rs (suc k) e = absurd (true≢false (ap is_some e))
 gone_all n (c ∷ cs) [] (suc k) e = absurd (true≢false (ap is_some (sym (owed_nil n (drop k cs)) ∙ e)))
 gone_all n (c ∷ cs) (r ∷ rs) (suc k) e = rw (gone_all n cs rs k e) (gone_before n (deed_of c) r)
 
-pub gone_from : (n : ℕ) (cs : List Call) (rs : List Answer) (k j : ℕ) → j ≤ k → owed n (drop k cs) (drop k rs) ≡ None → owed n (drop j cs) (drop j rs) ≡ None
+pub gone_from : (n : ℕ) (cs : List Call) (rs : List (Result ℕ Refusal)) (k j : ℕ) → j ≤ k → owed n (drop k cs) (drop k rs) ≡ None → owed n (drop j cs) (drop j rs) ≡ None
 gone_from n cs rs k zero h e = gone_all n cs rs k e
 gone_from n cs rs zero (suc j) h e = absurd (omega arith)
 gone_from n [] rs (suc k) (suc j) h e = absurd (true≢false (ap is_some e))
@@ -332,44 +355,22 @@ gone_from n (c ∷ cs) [] (suc k) (suc j) h e = absurd (true≢false (ap is_some
 gone_from n (c ∷ cs) (r ∷ rs) (suc k) (suc j) h e = gone_from n cs rs k j (omega arith) e
 
 -- what a loan owes from a position on, as a walk back has it
-pub record OwedAt (cs : List Call) (rs : List Answer) (n from k o : ℕ) : Type 0 where
+pub record OwedAt (cs : List Call) (rs : List (Result ℕ Refusal)) (n from k o : ℕ) : Type 0 where
   pub is : owed n (drop k cs) (drop k rs) ≡ Some o
   pub few : o + k ≤ length cs
   pub inside : k ≤ length rs
   pub start : (from ≤ k) ⊎ (Behind cs rs from × (o ≡ 0))
 
-one_more : (n o : ℕ) (d : Deed) (r : Answer) (o' : ℕ) → Some o' ≡ owed_before n (Some o) d r → o' ≤ o + 1
-one_more n o d (Refused e) o' h = is_some_lem o o' h (omega arith)
-one_more n o (lend p who) (Done x) o' h = is_some_lem o o' h (omega arith)
-one_more n o (paint p) (Done x) o' h = is_some_lem _ o' h (elim (eqb p.loan n) as (λ b. cond b (o - 1) o ≤ o + 1) [ true ↦ omega arith | false ↦ omega arith ])
-one_more n o (undo m who) (Done x) o' h = is_some_lem _ o' h (elim (eqb m n) as (λ b. cond b (o + 1) o ≤ o + 1) [ true ↦ omega arith | false ↦ omega arith ])
-one_more n o (keep m) (Done x) o' h = is_some_lem o o' h (omega arith)
-one_more n o (cancel m) (Done x) o' h = go (eqb m n) h
-  where
-    go : (b : Bool) → Some o' ≡ cond b None (Some o) → o' ≤ o + 1
-    go true e = absurd (true≢false (ap is_some e))
-    go false e = is_some_lem o o' e (omega arith)
-
-module _ (cs : List Call) (rs : List Answer) (n from k o : ℕ) (at : OwedAt cs rs n from k o) where
+module _ (cs : List Call) (rs : List (Result ℕ Refusal)) (n from k o : ℕ) (at : OwedAt cs rs n from k o) where
   -- one call further back
-  pub owed_back : from < k → (dc : Call) (dr : Answer) → owed n (drop (k - 1) cs) (drop (k - 1) rs) ≡ owed_before n (Some o) (deed_of (get_or cs (k - 1) dc)) (get_or rs (k - 1) dr)
+  pub owed_back : from < k → (dc : Call) (dr : Result ℕ Refusal) → owed n (drop (k - 1) cs) (drop (k - 1) rs) ≡ owed_before n (Some o) (deed_of (get_or cs (k - 1) dc)) (get_or rs (k - 1) dr)
   owed_back h dc dr =
       let back : k - 1 + 1 ≡ k = omega arith in
       owed_more n cs rs (k - 1) dc dr (omega (arith, at.few)) (omega (arith, at.inside))
       ∙ ap (λ x. owed_before n (owed n (drop x cs) (drop x rs)) (deed_of (get_or cs (k - 1) dc)) (get_or rs (k - 1) dr)) back
       ∙ ap (λ x. owed_before n x (deed_of (get_or cs (k - 1) dc)) (get_or rs (k - 1) dr)) at.is
 
-  pub owed_next : from < k → (dc : Call) (dr : Answer) (o' : ℕ) → Some o' ≡ owed_before n (Some o) (deed_of (get_or cs (k - 1) dc)) (get_or rs (k - 1) dr)
-      → OwedAt cs rs n from (k - 1) o'
-  owed_next h dc dr o' e =
-      record {
-        is = owed_back h dc dr ∙ sym e;
-        few = omega (arith, at.few, one_more n o (deed_of (get_or cs (k - 1) dc)) (get_or rs (k - 1) dr) o' e);
-        inside = omega (arith, at.inside);
-        start = inl (omega arith);
-      }
-
-  pub owed_gone : from < k → (dc : Call) (dr : Answer) → None ≡ owed_before n (Some o) (deed_of (get_or cs (k - 1) dc)) (get_or rs (k - 1) dr)
+  pub owed_gone : from < k → (dc : Call) (dr : Result ℕ Refusal) → None ≡ owed_before n (Some o) (deed_of (get_or cs (k - 1) dc)) (get_or rs (k - 1) dr)
       → owed n (drop from cs) (drop from rs) ≡ None
   owed_gone h dc dr e = gone_from n cs rs (k - 1) from (omega arith) (owed_back h dc dr ∙ sym e)
 
@@ -380,7 +381,7 @@ module _ (cs : List Call) (rs : List Answer) (n from k o : ℕ) (at : OwedAt cs 
       go (inl low) = let same : k ≡ from = omega arith in subst (λ x. owed n (drop x cs) (drop x rs) ≡ Some o) same at.is
       go (inr b) = owed_all n cs rs from b.0 ∙ ap (λ (x : ℕ). Some x) (sym b.1)
 
-pub owed_last : (cs : List Call) (rs : List Answer) (n from k : ℕ) → Behind cs rs k → k ≤ length cs → k ≤ length rs → OwedAt cs rs n from k 0
+pub owed_last : (cs : List Call) (rs : List (Result ℕ Refusal)) (n from k : ℕ) → Behind cs rs k → k ≤ length cs → k ≤ length rs → OwedAt cs rs n from k 0
 owed_last cs rs n from k b few inside =
     record {
       is = owed_all n cs rs k b;
@@ -394,17 +395,17 @@ owed_last cs rs n from k b few inside =
     behind_more (inr h) more = inr (omega arith)
 
 -- the law has it that the loans of a run are of pieces that exist
-traced : (y : Layout) (ds : List Deed) (rs : List Answer) (place : ℕ) (r : Option Painter)
+traced : (y : Layout) (ds : List Deed) (rs : List (Result ℕ Refusal)) (place : ℕ) (r : Option Painter)
     → (AllByRecursion (OfPiece y.table) (lent y.table (history_of ds rs)) → Newest y.table ds rs place r) → Traced y.table ds rs place r
 traced y ds rs place r newest =
     record {
       run = λ number file k same marks bytes answers.
-          newest (subst (λ (x : List Answer). AllByRecursion (OfPiece y.table) (lent y.table (history_of ds x))) (sym answers) (law_run y number file k ds same marks bytes).pieces);
+          newest (subst (λ (x : List (Result ℕ Refusal)). AllByRecursion (OfPiece y.table) (lent y.table (history_of ds x))) (sym answers) (law_run y number file k ds same marks bytes).pieces);
       pieces = newest;
     }
 
 -- a walk back to a position: who laid the newest stroke is still to be found before it
-pub record Walked (t : Table) (cs : List Call) (rs : List Answer) (place k : ℕ) : Type 0 where
+pub record Walked (t : Table) (cs : List Call) (rs : List (Result ℕ Refusal)) (place k : ℕ) : Type 0 where
   pub calls : k ≤ length cs
   pub answers : k ≤ length rs
   pub pieces : AllByRecursion (OfPiece t) (lent t (history_of (map deed_of cs) rs)) → AllByRecursion (OfPiece t) (lent t (past_of cs rs k))
@@ -412,7 +413,7 @@ pub record Walked (t : Table) (cs : List Call) (rs : List Answer) (place k : ℕ
       → newest_over (standing t opening (history_of (map deed_of cs) rs)) place
       ≡ newest_over (survivors (λ n. owed n (drop k cs) (drop k rs)) (standing t opening (past_of cs rs k))) place
 
-pub walk_none : (t : Table) (cs : List Call) (rs : List Answer) (place k : ℕ) → Behind cs rs k → k ≤ length cs → k ≤ length rs → Walked t cs rs place k
+pub walk_none : (t : Table) (cs : List Call) (rs : List (Result ℕ Refusal)) (place k : ℕ) → Behind cs rs k → k ≤ length cs → k ≤ length rs → Walked t cs rs place k
 walk_none t cs rs place k b i j =
     record {
       calls = i;
@@ -423,15 +424,18 @@ walk_none t cs rs place k b i j =
           ∙ ap (λ (ss : List Stroke). newest_over ss place) (sym (survive_all (λ n. owed n (drop k cs) (drop k rs)) (standing t opening (past_of cs rs k)) (λ n. owed_all n cs rs k b)));
     }
 
+walk_start : (t : Table) (cs : List Call) (rs : List (Result ℕ Refusal)) (place : ℕ) → Walked t cs rs place (min (length cs) (length rs))
+walk_start t cs rs place = walk_none t cs rs place (min (length cs) (length rs)) (shorter cs rs (min (length cs) (length rs)) refl) (omega arith) (omega arith)
+
 -- every call was walked past
-pub walk_all : (y : Layout) (cs : List Call) (rs : List Answer) (place k : ℕ) → Walked y.table cs rs place k → k ≤ 0 → Traced y.table (map deed_of cs) rs place None
+pub walk_all : (y : Layout) (cs : List Call) (rs : List (Result ℕ Refusal)) (place k : ℕ) → Walked y.table cs rs place k → k ≤ 0 → Traced y.table (map deed_of cs) rs place None
 walk_all y cs rs place k w h =
     let none : k ≡ 0 = omega arith in
     traced y (map deed_of cs) rs place None
     (λ a opening.
     sym (w.same a opening ∙ ap (λ x. newest_over (survivors (λ n. owed n (drop k cs) (drop k rs)) (standing y.table opening (past_of cs rs x))) place) none))
 
-module _ (t : Table) (cs : List Call) (rs : List Answer) (place j : ℕ) (w : Walked t cs rs place (j + 1)) where
+module _ (t : Table) (cs : List Call) (rs : List (Result ℕ Refusal)) (place j : ℕ) (w : Walked t cs rs place (j + 1)) where
   in_calls : j < length cs
   in_calls = omega (arith, w.calls)
 
@@ -472,17 +476,26 @@ module _ (t : Table) (cs : List Call) (rs : List Answer) (place j : ℕ) (w : Wa
             ∙ ap (λ x. or_else x (newest_over (survivors (λ n. owed n (drop j cs) (drop j rs)) (standing t opening (past_of cs rs j))) place)) (sym e);
       }
 
-module _ (y : Layout) (cs : List Call) (rs : List Answer) (place k : ℕ) (w : Walked y.table cs rs place k) (some : 0 < k) where
-  walked_here : Walked y.table cs rs place (k - 1 + 1)
-  walked_here = let back : k ≡ k - 1 + 1 = omega arith in subst (Walked y.table cs rs place) back w
+-- past calls that did not paint so
+walked_past : (t : Table) (cs : List Call) (rs : List (Result ℕ Refusal)) (place n k : ℕ) → Walked t cs rs place n → k ≤ n
+    → ((j : ℕ) → k ≤ j → j < n → painter_at t cs rs j place ≡ None) → Walked t cs rs place k
+walked_past t cs rs place zero k w h none = let same : 0 ≡ k = omega arith in subst (Walked t cs rs place) same w
+walked_past t cs rs place (suc n) k w h none =
+    ⊎_elim
+    (λ (less : k < suc n).
+    let next : suc n ≡ n + 1 = omega arith in
+    let here : painter_at t cs rs n place ≡ None = none n (omega arith) (omega arith) in
+    walked_past t cs rs place n k (not_here t cs rs place n (subst (Walked t cs rs place) next w) (sym here)) (omega arith)
+    (λ j low high. none j low (omega arith)))
+    (λ (more : suc n ≤ k). let same : suc n ≡ k = omega arith in subst (Walked t cs rs place) same w)
+    (cases_lt k (suc n))
 
-  pub walk_found : (p : Painter) → Some p ≡ painter_at y.table cs rs (k - 1) place → Traced y.table (map deed_of cs) rs place (Some p)
-  walk_found p e = traced y (map deed_of cs) rs place (Some p) (found_here y.table cs rs place (k - 1) walked_here p e)
-
-  pub walk_past : None ≡ painter_at y.table cs rs (k - 1) place → Walked y.table cs rs place (k - 1)
-  walk_past e = not_here y.table cs rs place (k - 1) walked_here e
-
--- the first of the calls or answers that end
-pub shorter : (cs : List Call) (rs : List Answer) (k : ℕ) → k ≡ min (length cs) (length rs) → Behind cs rs k
-shorter cs rs k e =
-    ⊎_elim (λ (less : k < length cs). inr (omega (arith, e))) (λ (more : length cs ≤ k). inl more) (cases_lt k (length cs))
+pub newest_traced : (y : Layout) (cs : List Call) (rs : List (Result ℕ Refusal)) (place : ℕ) (r : Option Painter)
+    → IsNewest y.table cs rs place (min (length cs) (length rs)) r → Traced y.table (map deed_of cs) rs place r
+newest_traced y cs rs place None none =
+    walk_all y cs rs place 0 (walked_past y.table cs rs place (min (length cs) (length rs)) 0 (walk_start y.table cs rs place) (omega arith) (λ j low high. none j high)) (omega arith)
+newest_traced y cs rs place (Some p) it =
+    let next : it.0 + 1 ≤ min (length cs) (length rs) = omega (arith, it.1) in
+    let w : Walked y.table cs rs place (it.0 + 1) =
+    walked_past y.table cs rs place (min (length cs) (length rs)) (it.0 + 1) (walk_start y.table cs rs place) next (λ j low high. it.3 j (omega arith) high) in
+    traced y (map deed_of cs) rs place (Some p) (found_here y.table cs rs place it.0 w p (sym it.2))

@@ -1,12 +1,11 @@
 -- Whose stroke lies over a byte, and how it is found without writing anything down.
-use Rattle.std.specs.Prelude.{◌≡◌, ℕ, ◌+◌, ◌-◌, Bool, false, cond, ◌&&◌, List, [], ◌∷◌, map, length, take, drop, Some, None, Option, ◌==◌, nat_le, nat_lt, slice_index_or}
+use Rattle.std.specs.Prelude.{◌≡◌, ℕ, ◌+◌, ◌-◌, Bool, false, cond, ◌&&◌, List, [], ◌∷◌, map, length, take, drop, Some, None, Ok, Err, Option, Result, MatchOption, ◌<◌, ◌==◌, nat_le, nat_lt, slice_index_or}
 use Rattle.std.specs.List.{AllByRecursion}
+use Rattle.refusal.specs.declared.Refusal.{Refusal}
 use Rattle.dds.specs.declared.area.Area.{Area}
 use Rattle.dds.specs.declared.piece.Piece.{Piece}
 use Rattle.dds.specs.declared.table.Table.{Table}
 use Rattle.dds.specs.Places.{exists_in, area_in}
-use Rattle.loans.specs.declared.call.Answer.{Answer}
-use Rattle.loans.specs.declared.call.Answer.TheVariants.{Done, Refused}
 use Rattle.loans.specs.declared.call.Call.{Call}
 use Rattle.painters.specs.declared.Painter.{Painter}
 use Rattle.loans.specs.Books.{no_loan}
@@ -25,10 +24,10 @@ newest_over (s ∷ ss) i =
     cond (covers s i) (Some (record { loan = s.painting.loan; borrower = s.painting.borrower })) (newest_over ss i)
 
 -- who laid the newest stroke standing over the byte; no stroke's reach depends on the opening's bytes
-abbrev pub Newest : Table → List Deed → List Answer → ℕ → Option Painter → Type 0
+abbrev pub Newest : Table → List Deed → List (Result ℕ Refusal) → ℕ → Option Painter → Type 0
 Newest t ds rs place r = (opening : List ℕ) → r ≡ newest_over (standing t opening (history_of ds rs)) place
 
-pub record Traced (t : Table) (ds : List Deed) (rs : List Answer) (place : ℕ) (r : Option Painter) : Type 0 where
+pub record Traced (t : Table) (ds : List Deed) (rs : List (Result ℕ Refusal)) (place : ℕ) (r : Option Painter) : Type 0 where
   -- after every run of calls on a job just opened, with two empty shelves
   pub run : (number : ℕ) (file : List ℕ) (k : Stock) → length file ≡ t.length → k.marks ≡ [] → k.bytes ≡ []
       → rs ≡ answers_to (opened_state t number file k) ds → Newest t ds rs place r
@@ -50,16 +49,16 @@ owes_nothing None = false
 owes_nothing (Some k) = k == 0
 
 -- what a loan owes before a call, by what it owes after it; none where its strokes are all taken back
-abbrev pub owed_before : ℕ → Option ℕ → Deed → Answer → Option ℕ
-owed_before n o d (Refused e) = o
-owed_before n o (lend p who) (Done x) = o
-owed_before n o (paint p) (Done x) = paid_off (p.loan == n) o
-owed_before n o (undo m who) (Done x) = owing_more (m == n) o
-owed_before n o (keep m) (Done x) = o
-owed_before n o (cancel m) (Done x) = cond (m == n) None o
+abbrev pub owed_before : ℕ → Option ℕ → Deed → Result ℕ Refusal → Option ℕ
+owed_before n o d (Err e) = o
+owed_before n o (lend p who) (Ok x) = o
+owed_before n o (paint p) (Ok x) = paid_off (p.loan == n) o
+owed_before n o (undo m who) (Ok x) = owing_more (m == n) o
+owed_before n o (keep m) (Ok x) = o
+owed_before n o (cancel m) (Ok x) = cond (m == n) None o
 
 -- what a loan owes before calls
-abbrev pub owed : ℕ → List Call → List Answer → Option ℕ
+abbrev pub owed : ℕ → List Call → List (Result ℕ Refusal) → Option ℕ
 owed n [] rs = Some 0
 owed n (c ∷ cs) [] = Some 0
 owed n (c ∷ cs) (r ∷ rs) = owed_before n (owed n cs rs) (deed_of c) r
@@ -69,13 +68,13 @@ abbrev pub unless_out : Option Piece → Bool → Piece → Option Piece
 unless_out (Some q) b p = Some q
 unless_out None b p = cond b (Some p) None
 
-abbrev pub piece_after : ℕ → Option Piece → Deed → Answer → Option Piece
-piece_after n o d (Refused e) = o
-piece_after n o (lend p who) (Done x) = unless_out o (n == x) p
-piece_after n o (paint p) (Done x) = o
-piece_after n o (undo m who) (Done x) = o
-piece_after n o (keep m) (Done x) = cond (m == n) None o
-piece_after n o (cancel m) (Done x) = cond (m == n) None o
+abbrev pub piece_after : ℕ → Option Piece → Deed → Result ℕ Refusal → Option Piece
+piece_after n o d (Err e) = o
+piece_after n o (lend p who) (Ok x) = unless_out o (n == x) p
+piece_after n o (paint p) (Ok x) = o
+piece_after n o (undo m who) (Ok x) = o
+piece_after n o (keep m) (Ok x) = cond (m == n) None o
+piece_after n o (cancel m) (Ok x) = cond (m == n) None o
 
 abbrev pub piece_out : ℕ → List Event → Option Piece
 piece_out n [] = None
@@ -90,29 +89,36 @@ abbrev pub reach_over : ℕ → ℕ → ℕ → Bool
 reach_over at n i = nat_le at i && nat_lt i (at + n)
 
 -- who painted by a call, where its stroke lies over the byte and stands
-abbrev pub painter_by : Table → (ℕ → Option Piece) → (ℕ → Option ℕ) → ℕ → Deed → Answer → Option Painter
-painter_by t pieces owes place d (Refused e) = None
-painter_by t pieces owes place (lend p who) (Done x) = None
-painter_by t pieces owes place (paint p) (Done x) =
+abbrev pub painter_by : Table → (ℕ → Option Piece) → (ℕ → Option ℕ) → ℕ → Deed → Result ℕ Refusal → Option Painter
+painter_by t pieces owes place d (Err e) = None
+painter_by t pieces owes place (lend p who) (Ok x) = None
+painter_by t pieces owes place (paint p) (Ok x) =
     cond (reach_over (stroke_place (area_for t (pieces p.loan)) p) (length p.laid) place && owes_nothing (owes p.loan))
     (Some (record { loan = p.loan; borrower = p.borrower })) None
-painter_by t pieces owes place (undo m who) (Done x) = None
-painter_by t pieces owes place (keep m) (Done x) = None
-painter_by t pieces owes place (cancel m) (Done x) = None
+painter_by t pieces owes place (undo m who) (Ok x) = None
+painter_by t pieces owes place (keep m) (Ok x) = None
+painter_by t pieces owes place (cancel m) (Ok x) = None
 
 -- what is read where no call and no answer stands
 abbrev pub no_call : Call
 no_call = Call.Loan (record { element = 0; level = 0; slice = 0 }) 0
 
-abbrev pub no_answer : Answer
-no_answer = Done 0
+abbrev pub no_answer : Result ℕ Refusal
+no_answer = Ok 0
 
 -- the calls before a position, written down
-abbrev pub past_of : List Call → List Answer → ℕ → List Event
+abbrev pub past_of : List Call → List (Result ℕ Refusal) → ℕ → List Event
 past_of cs rs k = history_of (map deed_of (take k cs)) (take k rs)
 
 -- the same of the call at a position
-abbrev pub painter_at : Table → List Call → List Answer → ℕ → ℕ → Option Painter
+abbrev pub painter_at : Table → List Call → List (Result ℕ Refusal) → ℕ → ℕ → Option Painter
 painter_at t cs rs k place =
     painter_by t (λ n. piece_out n (past_of cs rs k)) (λ n. owed n (drop (k + 1) cs) (drop (k + 1) rs)) place
     (deed_of (slice_index_or cs k no_call)) (slice_index_or rs k no_answer)
+
+-- of the calls below a position, the newest that painted so; or none did
+abbrev pub IsNewest : Table → List Call → List (Result ℕ Refusal) → ℕ → ℕ → Option Painter → Type 0
+IsNewest t cs rs place n r =
+    MatchOption r
+    ((k : ℕ) → k < n → painter_at t cs rs k place ≡ None)
+    (λ p. (i : ℕ) × (i < n) × (painter_at t cs rs i place ≡ Some p) × ((k : ℕ) → i < k → k < n → painter_at t cs rs k place ≡ None))

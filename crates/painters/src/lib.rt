@@ -1,12 +1,12 @@
 // Whose stroke lies over a byte, after a run of calls.
 #![tactic(auto)]
 
-ghost use Rattle.std.specs.Prelude.{◌≡◌, ◌<◌, ◌≤◌, map, length, take, drop, Some};
+ghost use Rattle.std.specs.Prelude.{◌≡◌, ◌<◌, min, map, length, take, drop, Some};
 ghost use Rattle.loans.specs.Jobs.{book_of};
 ghost use Rattle.loans.specs.Strokes.{painting_of, stroke_place};
 ghost use Rattle.loans.specs.Rules.{deed_of};
 ghost use Rattle.loans.specs.History.{history_of};
-ghost use Rattle.painters.specs.Tracing.{Traced, owed_before, owed, piece_after, piece_out, area_for, reach_over, painter_at};
+ghost use Rattle.painters.specs.Tracing.{Traced, owed_before, owed, piece_after, piece_out, area_for, reach_over, painter_at, IsNewest};
 
 use dds::{Area, Piece};
 use loans::{Answer, Call, Job, Painting};
@@ -24,10 +24,8 @@ fn owed_before(owed: usize, loan: u32, call: Call<'_>, answer: Answer) -> Option
     requires { owed < 18446744073709551615 }
     ensures { result ≡ owed_before loan (Some owed) (deed_of call.entry) answer }
 {
-    let Answer::Done(_) = answer else {
-        return Some(owed);
-    };
     match call {
+        _ if answer.is_err() => Some(owed),
         Call::Paint(painting) if painting.loan == loan => Some(owed.saturating_sub(1)),
         Call::Undo { loan: number, .. } if number == loan => Some(owed + 1),
         Call::Cancel { loan: number } if number == loan => None,
@@ -39,7 +37,7 @@ fn owed_before(owed: usize, loan: u32, call: Call<'_>, answer: Answer) -> Option
 fn piece_after(found: Option<Piece>, loan: u32, call: Call<'_>, answer: Answer) -> Option<Piece>
     ensures { result ≡ piece_after loan found (deed_of call.entry) answer }
 {
-    let Answer::Done(given) = answer else {
+    let Ok(given) = answer else {
         return found;
     };
     match call {
@@ -59,83 +57,81 @@ fn reaches_over(area: Area, painting: Painting<'_>, place: u64) -> bool
     place >= area.place && place - area.place >= offset && place - area.place - offset < length
 }
 
-// What a loan owes before the calls from a position on; none where its strokes are all taken back.
-fn owed_from(calls: &[Call<'_>], answers: &[Answer], from: usize, loan: u32) -> Option<usize>
-    ensures { result ≡ owed loan (drop from calls.now) (drop from answers.now) }
-{
-    let mut position = calls.len().min(answers.len());
-    let mut owed = 0;
-    while position > from {
-        position -= 1;
-        owed = owed_before(owed, loan, calls[position], answers[position])?;
-    }
-    Some(owed)
-}
-
-// The piece of the loan of a number that is out before the call at a position.
-fn piece_before(calls: &[Call<'_>], answers: &[Answer], until: usize, loan: u32) -> Option<Piece>
-    requires calls { until ≤ length calls.now }
-    requires answers { until ≤ length answers.now }
-    ensures { result ≡ piece_out loan (history_of (map deed_of (take until calls.now)) (take until answers.now)) }
-{
-    let mut found = None;
-    for position in 0..until {
-        found = piece_after(found, loan, calls[position], answers[position]);
-    }
-    found
-}
-
-// The area of no piece.
-const NO_AREA: Area = Area {
-    place: 0,
-    length: 0,
-    row_bytes: 0,
-    rows: 0,
-};
-
 // The area of a piece of the job's file; nothing where no piece is named, or none exists.
 fn area_for(job: &Job, piece: Option<Piece>) -> Area
     ensures { result ≡ area_for (book_of job.now).table piece }
 {
-    let Some(named) = piece else {
-        return NO_AREA;
-    };
-    match job.where_is(named) {
-        Ok(area) => area,
-        Err(_) => NO_AREA,
-    }
+    piece
+        .and_then(|named| job.where_is(named).ok())
+        .unwrap_or_default()
 }
 
-// Who painted by the call at a position, where its stroke lies over the byte at a place and stands.
-fn painter_at(
-    job: &Job,
-    calls: &[Call<'_>],
-    answers: &[Answer],
-    position: usize,
-    place: u64,
-) -> Option<Painter>
-    requires calls { position < length calls.now }
-    requires answers { position < length answers.now }
-    ensures { result ≡ painter_at (book_of job.now).table calls.now answers.now position place }
-{
-    let Call::Paint(painting) = calls[position] else {
-        return None;
-    };
-    let Answer::Done(_) = answers[position] else {
-        return None;
-    };
-    let area = area_for(job, piece_before(calls, answers, position, painting.loan));
-    if !reaches_over(area, painting, place) {
-        return None;
+// Calls and what they answered, place by place.
+#[derive(Clone, Copy)]
+struct History<'a> {
+    calls: &'a [Call<'a>],
+    answers: &'a [Answer],
+}
+
+impl History<'_> {
+    // How many calls have an answer.
+    fn count(&self) -> usize
+        ensures { result ≡ min (length self.now.calls.now) (length self.now.answers.now) }
+    {
+        self.calls.len().min(self.answers.len())
     }
-    let owed = owed_from(calls, answers, position + 1, painting.loan)?;
-    if owed > 0 {
-        return None;
+
+    // What a loan owes before the calls from a position on; none where its strokes are all taken back. A loop and no `try_fold`, whose
+    // closure would not know that what is owed is less than the calls that were read, and so can be counted.
+    fn owed_from(&self, from: usize, loan: u32) -> Option<usize>
+        ensures { result ≡ owed loan (drop from self.now.calls.now) (drop from self.now.answers.now) }
+    {
+        let mut owed = 0;
+        for position in (from..self.count()).rev() {
+            owed = owed_before(owed, loan, self.calls[position], self.answers[position])?;
+        }
+        Some(owed)
     }
-    Some(Painter {
-        loan: painting.loan,
-        borrower: painting.borrower,
-    })
+
+    // The piece of the loan of a number that is out before the call at a position.
+    fn piece_before(&self, position: usize, loan: u32) -> Option<Piece>
+        ensures { result ≡ piece_out loan (history_of (map deed_of (take position self.now.calls.now)) (take position self.now.answers.now)) }
+    {
+        self.calls.iter().zip(self.answers).take(position).fold(
+            None,
+            |found, (call, answer)| piece_after(found, loan, *call, *answer),
+        )
+    }
+
+    // Who painted by the call at a position, where its stroke lies over the byte at a place and stands.
+    fn painter_at(&self, job: &Job, position: usize, place: u64) -> Option<Painter>
+        ensures { position < length self.now.calls.now → position < length self.now.answers.now → result ≡ painter_at (book_of job.now).table self.now.calls.now self.now.answers.now position place }
+    {
+        let Call::Paint(painting) = *self.calls.get(position)? else {
+            return None;
+        };
+        if self.answers.get(position)?.is_err() {
+            return None;
+        }
+        let area = area_for(job, self.piece_before(position, painting.loan));
+        let owed = self.owed_from(position + 1, painting.loan)?;
+        if owed > 0 || !reaches_over(area, painting, place) {
+            return None;
+        }
+        Some(Painter {
+            loan: painting.loan,
+            borrower: painting.borrower,
+        })
+    }
+
+    // Who laid the newest stroke that stands over the byte at a place.
+    fn newest_painter(&self, job: &Job, place: u64) -> Option<Painter>
+        ensures { IsNewest (book_of job.now).table self.now.calls.now self.now.answers.now place (min (length self.now.calls.now) (length self.now.answers.now)) result }
+    {
+        (0..self.count())
+            .rev()
+            .find_map(|position| self.painter_at(job, position, place))
+    }
 }
 
 // Who laid the newest stroke that stands over the byte at a place, after a run of calls that were answered so; none where no
@@ -143,12 +139,5 @@ fn painter_at(
 pub fn painter_of(job: &Job, calls: &[Call<'_>], answers: &[Answer], place: u64) -> Option<Painter>
     ensures { Traced (book_of job.now).table (map deed_of calls.now) answers.now place result }
 {
-    let mut position = calls.len().min(answers.len());
-    while position > 0 {
-        position -= 1;
-        if let Some(painter) = painter_at(job, calls, answers, position, place) {
-            return Some(painter);
-        }
-    }
-    None
+    History { calls, answers }.newest_painter(job, place)
 }

@@ -5,7 +5,7 @@
 mod session;
 mod text;
 
-use crate::session::{Change, answer_of, carry_out, changes, finish, last_piece, steps, trace};
+use crate::session::{Change, changes, finish, last_piece, steps, trace};
 use crate::text::{AnswerText, CallText};
 use formats::BuiltInCodes;
 use loans::{Answer, Call, Job, Mark, Shelves};
@@ -15,6 +15,7 @@ use std::fs::File;
 use std::io::Write;
 use std::process::ExitCode;
 use std::{env, fs, io};
+use thiserror::Error;
 
 const USAGE: &str =
     "usage: retouch FILE       retouches a DDS file in memory, and prints each step and which bytes changed
@@ -31,18 +32,15 @@ const NO_MARK: Mark = Mark {
 };
 
 // Why a file could not be retouched or written.
-#[derive(Drop)]
+#[derive(Debug, Drop, Error)]
 enum Fault {
+    #[error("{0}")]
     Unreadable(io::Error),
-    Refused(Refusal),
+    #[error("{0}")]
+    Refused(#[from] Refusal),
     // printing failed, or what failed was told already
-    Told(io::Error),
-}
-
-impl From<io::Error> for Fault {
-    fn from(error: io::Error) -> Fault {
-        Fault::Told(error)
-    }
+    #[error("{0}")]
+    Told(#[from] io::Error),
 }
 
 // Makes the calls, and tells each with its answer.
@@ -55,7 +53,7 @@ fn work(
 ) -> io::Result<Vec<Answer>> {
     let mut answers = Vec::new(rt.alloc());
     for call in calls {
-        let answer = answer_of(carry_out(*call, job, file, shelves));
+        let answer = job.carry_out(file, shelves, *call);
         answers.push(answer)?;
         let words = CallText(*call);
         let answer = AnswerText(*call, answer);
@@ -68,7 +66,7 @@ fn work(
 fn tell_changes(rt: &HostRuntime, changes: &[Change]) -> io::Result<()> {
     let mut total = 0usize;
     for change in changes {
-        total = total.saturating_add(change.length);
+        total = total.saturating_add(change.places.len());
         println!(rt; "changed: {change}")?;
     }
     println!(rt; "changed: {total} bytes in all")
@@ -95,10 +93,9 @@ fn work_and_tell(
 fn write_whole(rt: &HostRuntime, out: &str, bytes: &[u8]) -> io::Result<()> {
     let beside = format!(in rt.alloc(); "{out}.part")?;
     let mut part = File::create_new(rt, beside.as_str())?;
-    let written = match part.write_all(bytes) {
-        Ok(()) => fs::rename(rt, beside.as_str(), out),
-        Err(error) => Err(error),
-    };
+    let written = part
+        .write_all(bytes)
+        .and_then(|()| fs::rename(rt, beside.as_str(), out));
     if written.is_err() {
         let _ = fs::remove_file(rt, beside.as_str());
     }
@@ -110,34 +107,23 @@ fn retouch(rt: &HostRuntime, path: &str, file: &mut [u8], before: &[u8]) -> Resu
     let mut bytes = [0u8; 256];
     let mut shelves = Shelves::of(Shelf::new(&mut marks), Shelf::new(&mut bytes));
     let mut job = Job::empty();
-    let docket = match job.open(file, 1, &BuiltInCodes) {
-        Ok(docket) => docket,
-        Err(refusal) => return Err(Fault::Refused(refusal)),
-    };
+    let docket = job.open(file, 1, &BuiltInCodes)?;
     let told = work_and_tell(rt, path, before, &mut job, file, &mut shelves);
     let ended = finish(docket, &mut job, file, &mut shelves);
     told?;
-    match ended {
-        Ok(report) => {
-            let granted = report.granted;
-            let kept = report.kept;
-            let cancelled = report.cancelled;
-            println!(rt; "ship: {granted} loans granted, {kept} kept, {cancelled} cancelled")?;
-            Ok(())
-        }
-        Err(refusal) => Err(Fault::Refused(refusal)),
-    }
+    let report = ended?;
+    let granted = report.granted;
+    let kept = report.kept;
+    let cancelled = report.cancelled;
+    println!(rt; "ship: {granted} loans granted, {kept} kept, {cancelled} cancelled")?;
+    Ok(())
 }
 
 fn run(rt: &HostRuntime, path: &str, out: Option<&String>) -> Result<(), Fault> {
-    let before = match fs::read(rt, path) {
-        Ok(bytes) => bytes,
-        Err(error) => return Err(Fault::Unreadable(error)),
-    };
-    let mut file = match before.clone() {
-        Ok(bytes) => bytes,
-        Err(error) => return Err(Fault::Unreadable(error.into())),
-    };
+    let before = fs::read(rt, path).map_err(Fault::Unreadable)?;
+    let mut file = before
+        .clone()
+        .map_err(|error| Fault::Unreadable(error.into()))?;
     retouch(rt, path, &mut file, &before)?;
     let Some(out) = out else {
         return Ok(());
@@ -169,9 +155,8 @@ fn main(rt: HostRuntime) -> io::Result<ExitCode> {
     }
     match run(&rt, path.as_str(), args.get(1)) {
         Ok(()) => return Ok(ExitCode::SUCCESS),
-        Err(Fault::Unreadable(error)) => eprintln!(rt; "retouch: {path}: {error}")?,
-        Err(Fault::Refused(refusal)) => eprintln!(rt; "retouch: {path}: {refusal}")?,
         Err(Fault::Told(_)) => {}
+        Err(fault) => eprintln!(rt; "retouch: {path}: {fault}")?,
     }
     Ok(ExitCode::FAILURE)
 }

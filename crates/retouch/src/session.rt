@@ -1,14 +1,10 @@
 // What is done to a file: the calls, one after the other, and what they changed.
-ghost use Rattle.std.specs.Prelude.{◌≡◌};
-ghost use Rattle.loans.specs.Calls.{Called};
-ghost use Rattle.loans.specs.Rules.{deed_of};
-ghost use Rattle.loans.specs.Runs.{answer_with};
-
 use dds::Piece;
 use loans::{Answer, Call, Docket, Job, Painting, Report, Shelves, Unspent, scrap, ship};
 use painters::{Painter, painter_of};
 use refusal::Refusal;
 use std::alloc::{AllocError, Global};
+use std::ops::Range;
 
 const FIRST: Piece = Piece {
     element: 0,
@@ -22,10 +18,9 @@ const TINT: &[u8] = &[0x20, 0x40, 0xf0, 0x80, 0x20, 0x40, 0xf0, 0x80];
 const SHADE: &[u8] = &[0x10, 0x10, 0x10, 0xc0];
 
 // A run of bytes that changed: where, and of its first byte the piece, the offset in it, and who painted it.
-#[derive(Clone, Copy)]
+#[derive(Drop)]
 pub(crate) struct Change {
-    pub(crate) place: usize,
-    pub(crate) length: usize,
+    pub(crate) places: Range<usize>,
     pub(crate) owner: Option<(Piece, u32)>,
     pub(crate) painter: Option<Painter>,
 }
@@ -75,58 +70,26 @@ pub(crate) fn steps(last: Piece) -> [Call<'static>; 13] {
     ]
 }
 
-pub(crate) fn carry_out(
-    call: Call<'_>,
-    job: &mut Job,
-    file: &mut [u8],
-    shelves: &mut Shelves<'_>,
-) -> Result<u32, Refusal>
-    ensures { Called (deed_of call.entry) job.old file.old shelves.old result job.new file.new shelves.new }
-{
-    match call {
-        Call::Loan { piece, borrower } => job.loan(piece, borrower),
-        Call::Paint(painting) => job.paint(file, shelves, painting),
-        Call::Undo { loan, borrower } => job.undo(file, shelves, loan, borrower),
-        Call::Keep { loan } => job.keep(shelves, loan),
-        Call::Cancel { loan } => job.cancel(file, shelves, loan),
-    }
-}
-
-pub(crate) fn answer_of(outcome: Result<u32, Refusal>) -> Answer
-    ensures { result ≡ answer_with outcome }
-{
-    match outcome {
-        Ok(number) => Answer::Done(number),
-        Err(refusal) => Answer::Refused(refusal),
-    }
-}
-
 // The runs of bytes that differ; whose they are is not asked yet.
 pub(crate) fn changes(
     heap: Global,
     before: &[u8],
     after: &[u8],
 ) -> Result<Vec<Change>, AllocError> {
-    let mut changes = Vec::new(heap);
-    let mut run = Change {
-        place: 0,
-        length: 0,
-        owner: None,
-        painter: None,
-    };
+    let mut changes: Vec<Change> = Vec::new(heap);
     for (place, (old, new)) in before.iter().zip(after).enumerate() {
-        if *old != *new {
-            if run.length == 0 {
-                run.place = place;
-            }
-            run.length = run.length.saturating_add(1);
-        } else if run.length > 0 {
-            changes.push(run)?;
-            run.length = 0;
+        if old == new {
+            continue;
         }
-    }
-    if run.length > 0 {
-        changes.push(run)?;
+        let end = place.saturating_add(1);
+        match changes.last_mut() {
+            Some(run) if run.places.end == place => run.places.end = end,
+            _ => changes.push(Change {
+                places: place..end,
+                owner: None,
+                painter: None,
+            })?,
+        }
     }
     Ok(changes)
 }
@@ -134,12 +97,9 @@ pub(crate) fn changes(
 // Asks whose the changed bytes are, and who painted them.
 pub(crate) fn trace(changes: &mut [Change], job: &Job, calls: &[Call<'_>], answers: &[Answer]) {
     for change in changes {
-        let place = change.place as u64;
+        let place = change.places.start as u64;
         change.painter = painter_of(job, calls, answers, place);
-        change.owner = match job.whose(place) {
-            Ok(owner) => owner,
-            Err(_) => None,
-        };
+        change.owner = job.whose(place).ok().flatten();
     }
 }
 

@@ -1,20 +1,7 @@
 // Calls, answers and changes in words.
 use crate::session::Change;
-use dds::Piece;
 use loans::{Answer, Call};
 use std::fmt;
-
-#[derive(Clone, Copy)]
-pub(crate) struct PieceText(pub(crate) Piece);
-
-impl fmt::Display for PieceText {
-    fn fmt<W: fmt::Write>(&self, f: &mut fmt::Formatter<W>) -> fmt::Result {
-        let element = self.0.element;
-        let level = self.0.level;
-        let slice = self.0.slice;
-        write!(f, "{element} {level} {slice}")
-    }
-}
 
 #[derive(Clone, Copy)]
 pub(crate) struct CallText<'a>(pub(crate) Call<'a>);
@@ -22,10 +9,10 @@ pub(crate) struct CallText<'a>(pub(crate) Call<'a>);
 impl fmt::Display for CallText<'_> {
     fn fmt<W: fmt::Write>(&self, f: &mut fmt::Formatter<W>) -> fmt::Result {
         match self.0 {
-            Call::Loan { piece, borrower } => {
-                let piece = PieceText(piece);
-                write!(f, "loan of piece {piece} to borrower {borrower}")
-            }
+            Call::Loan { piece, borrower } => write!(
+                f,
+                "loan of piece {piece} to borrower {borrower}"
+            ),
             Call::Paint(painting) => {
                 let loan = painting.loan;
                 let borrower = painting.borrower;
@@ -64,19 +51,18 @@ impl fmt::Display for AnswerText<'_> {
     fn fmt<W: fmt::Write>(&self, f: &mut fmt::Formatter<W>) -> fmt::Result {
         let counted = counted_by(self.0);
         match self.1 {
-            Answer::Done(number) => write!(f, "{counted} {number}"),
-            Answer::Refused(refusal) => write!(f, "{refusal}"),
+            Ok(number) => write!(f, "{counted} {number}"),
+            Err(refusal) => write!(f, "{refusal}"),
         }
     }
 }
 
 impl fmt::Display for Change {
     fn fmt<W: fmt::Write>(&self, f: &mut fmt::Formatter<W>) -> fmt::Result {
-        let length = self.length;
-        let place = self.place;
+        let length = self.places.len();
+        let place = self.places.start;
         write!(f, "{length} bytes from place {place} on")?;
         if let Some((piece, offset)) = self.owner {
-            let piece = PieceText(piece);
             write!(f, ", piece {piece} offset {offset}")?;
         }
         if let Some(painter) = self.painter {
