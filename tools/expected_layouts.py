@@ -266,16 +266,19 @@ def format_name(name):
     return 'FormatName::Paired' if name[0] == 'Paired' else f'FormatName::{name[0]}({name[1]})'
 
 
-LINES = []
-CHANGES = []
+# The refusals by their numbers.
+REFUSALS = ['', 'WrongLength', 'WrongMagic', 'WrongHeaderSize', 'ShortExtendedHeader', 'UnknownFormat', 'NoShape', 'OutOfRange',
+            'TooManyLevels', 'WrongEnd']
+
+
+def refusal(number):
+    return f'Some(Refusal::{REFUSALS[number]})' if number else 'None'
 
 
 def entry(kind, what, base, changes):
-    """Begins a line of a table, and puts its changes into theirs: both have the line's number."""
-    number = len(LINES) + 1
-    LINES.append(what)
-    CHANGES.extend((number, place, value) for place, value in changes.items())
-    return f'    // {what}\n    {kind} {{ line: {number}, base: {names.index(base)}, '
+    """Begins a line of a table: what it tries, the base head and what is changed in it."""
+    changed = ', '.join(f'Change {{ place: {place}, value: {value} }}' for place, value in changes.items())
+    return f'    {kind} {{ what: "{what}", base: &{base.upper()}, changes: &[{changed}], '
 
 
 def table(title, kind, lines):
@@ -287,41 +290,30 @@ def triple(piece):
 
 
 out = [
-    '// Written by tools/expected_layouts.py, which says how the values were computed. Each case and each sample has a line number, by',
-    '// which the other tables tell what belongs to it.',
+    '// Written by tools/expected_layouts.py, which says how the values were computed.',
     'use dds::Piece;',
     'use formats::FormatName;',
-    '',
-    '// A header, and the number of its refusal, 0 where it is accepted: by the format that the header names, and with the format',
-    '// handed in.',
-    'pub struct Case {',
-    '    pub line: u32,',
-    '    pub base: usize,',
-    '    pub length: u64,',
-    '    pub format: FormatName,',
-    '    pub number: u32,',
-    '    pub handed: u32,',
-    '}',
-    '',
-    '// An accepted file: where its pixel data begin, and how many pieces it has.',
-    'pub struct Sample {',
-    '    pub line: u32,',
-    '    pub base: usize,',
-    '    pub length: u64,',
-    '    pub begin: u64,',
-    '    pub pieces: u64,',
-    '}',
+    'use refusal::Refusal;',
     '',
     '// A word of a head that is changed: its place in the file, and what stands there.',
     'pub struct Change {',
-    '    pub line: u32,',
     '    pub place: usize,',
     '    pub value: u32,',
     '}',
     '',
-    '// A piece of a sample, with its number in the order of the file.',
+    '// A header, and its refusal: by the format that the header names, and with the format handed in.',
+    'pub struct Case {',
+    "    pub what: &'static str,",
+    "    pub base: &'static [u32; 37],",
+    "    pub changes: &'static [Change],",
+    '    pub length: u64,',
+    '    pub format: FormatName,',
+    '    pub refusal: Option<Refusal>,',
+    '    pub handed: Option<Refusal>,',
+    '}',
+    '',
+    '// A piece, with its number in the order of the file.',
     'pub struct Spot {',
-    '    pub line: u32,',
     '    pub number: u64,',
     '    pub piece: Piece,',
     '    pub width: u32,',
@@ -332,42 +324,52 @@ out = [
     '    pub rows: u32,',
     '}',
     '',
-    '// Whose byte stands at a place of a sample: the piece, and the offset in it.',
+    '// Whose byte stands at a place: the piece, and the offset in it.',
     'pub struct Byte {',
-    '    pub line: u32,',
     '    pub place: u64,',
     '    pub piece: Piece,',
     '    pub offset: u32,',
     '}',
     '',
-    '// Heads of accepted files, word by word: ' + ', '.join(names) + ' (x: with an extended header).',
-    f'pub const BASES: [[u32; 37]; {len(names)}] = [',
+    '// An accepted file: where its pixel data begin, how many pieces it has, and some of these and of its bytes.',
+    'pub struct Sample {',
+    "    pub what: &'static str,",
+    "    pub base: &'static [u32; 37],",
+    "    pub changes: &'static [Change],",
+    '    pub length: u64,',
+    '    pub begin: u64,',
+    '    pub pieces: u64,',
+    "    pub spots: &'static [Spot],",
+    "    pub bytes: &'static [Byte],",
+    '}',
+    '',
+    '// Heads of accepted files, word by word; with an X those with an extended header.',
 ]
-for base in BASES.values():
-    out.append(f'    {[base.fields.get(4 * k, 0) for k in range(37)]},')
-out += ['];']
+for name, base in BASES.items():
+    out += [f'pub const {name.upper()}: [u32; 37] = {[base.fields.get(4 * k, 0) for k in range(37)]};', '']
+out.pop()
 for title, cases in GROUPS.items():
     out += table(title, 'Case', [
         entry('Case', what, base, changes)
-        + f'length: {length}, format: {format_name(name)}, number: {number}, handed: {handed} }},'
+        + f'length: {length}, format: {format_name(name)}, refusal: {refusal(number)}, handed: {refusal(handed)} }},'
         for what, base, changes, length, name, number, handed in cases])
-samples, spots, bytes_at = [], [], []
+samples = []
 for what, base, changes, name in SAMPLES:
     b = BASES[base]
     every = pieces(b, changes, name or b.name)
-    begin = entry('Sample', what, base, changes)
-    samples.append(begin + f'length: {every[-1][2] + every[-1][3]}, begin: {every[0][2]}, pieces: {len(every)} }},')
     places = {}
+    spots = []
     for number, piece, place, length, row, count, width, height in (every[k] for k in sorted({0, len(every) // 2, len(every) - 1})):
-        spots.append(f'    Spot {{ line: {len(LINES)}, number: {number}, piece: {triple(piece)}, width: {width}, height: {height}, '
-                     f'place: {place}, length: {length}, row_bytes: {row}, rows: {count} }},')
+        spots.append(f'Spot {{ number: {number}, piece: {triple(piece)}, width: {width}, height: {height}, '
+                     f'place: {place}, length: {length}, row_bytes: {row}, rows: {count} }}')
         places[place] = (piece, 0)
         places[place + length - 1] = (piece, length - 1)
         if number + 1 < len(every):
             places[place + length] = (every[number + 1][1], 0)
-    bytes_at += [f'    Byte {{ line: {len(LINES)}, place: {place}, piece: {triple(piece)}, offset: {offset} }},'
-                 for place, (piece, offset) in sorted(places.items())]
-out += table('SAMPLES', 'Sample', samples) + table('SPOTS', 'Spot', spots) + table('BYTES', 'Byte', bytes_at)
-out += table('CHANGES', 'Change', [f'    Change {{ line: {line}, place: {place}, value: {value} }},' for line, place, value in CHANGES])
+    bytes_at = [f'Byte {{ place: {place}, piece: {triple(piece)}, offset: {offset} }}' for place, (piece, offset) in sorted(places.items())]
+    samples.append(entry('Sample', what, base, changes)
+                   + f'length: {every[-1][2] + every[-1][3]}, begin: {every[0][2]}, pieces: {len(every)}, '
+                   + f'spots: &[{", ".join(spots)}], bytes: &[{", ".join(bytes_at)}] }},')
+out += table('SAMPLES', 'Sample', samples)
 path = pathlib.Path(__file__).resolve().parent.parent / 'crates/dds_tests/src/expected.rt'
 path.write_text('\n'.join(out + ['']))

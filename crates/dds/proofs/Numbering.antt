@@ -1,12 +1,17 @@
 -- The number of a piece in its plan's list.
-use Rattle.std.proofs.Common.{◌≡◌, ℕ, zero, suc, ◌+◌, ◌-◌, ◌*◌, ◌/◌, ◌%◌, ◌<◌, ◌≤◌, List, [], ◌∷◌, ◌++◌, length, Some, None, Option, sym, refl, ap, ◌∙◌, subst, le_refl, add-zero, add-suc, suc-mul, suc-add, div-add-mod', zero-add, arith, length-append}
-use Rattle.std.specs.Option.{option_map}
+use Rattle.std.proofs.Common.{◌≡◌, ℕ, zero, suc, ◌+◌, ◌-◌, ◌*◌, ◌/◌, ◌%◌, ◌<◌, ◌≤◌, List, [], ◌∷◌, ◌++◌, length, Some, None, Option, sym, refl, ap, ◌∙◌, subst, le_refl, add-zero, add-suc, suc-mul, suc-add, div-add-mod', zero-add, arith, length-append, take, drop, map, get_or, add-one, sum_by}
+use Rattle.std.proofs.lemmas.List.Sums.{sum_by_more}
+use Rattle.dds.specs.Tables.{blank}
+use Rattle.std.specs.Option.{option_map, unwrap_or}
+use Rattle.std.proofs.lemmas.Option.{none-some}
+use Rattle.std.proofs.Math.Seq.{drop-nil}
 use Rattle.std.proofs.lemmas.Nat.{mod_below, mul-le}
 use Rattle.dds.specs.declared.piece.Piece.{Piece}
 use Rattle.dds.specs.declared.layout.Layout.{Layout}
+use Rattle.dds.specs.declared.level.Level.{Level}
 use Rattle.dds.specs.declared.table.Table.{Table}
-use Rattle.dds.specs.Sound.{slices_in, plan_in, Counted, Chained}
-use Rattle.dds.specs.Plans.{Plan, stride_of}
+use Rattle.dds.specs.Sound.{slices_in, size_in, plan_in, Counted, Chained}
+use Rattle.dds.specs.Plans.{Plan, begin_at, stride_of}
 use Rattle.dds.specs.Pieces.{Placed, slices_from, levels_from, elements_from, pieces_of}
 use Rattle.dds.specs.Counts.{numbered, count_at, piece_numbered}
 
@@ -146,6 +151,32 @@ module _ (plan : Plan) where
   pub pieces_past : (n : ℕ) → plan.elements * count_at plan.slices plan.levels ≤ n → pick (pieces_of plan) n ≡ None
   pieces_past n h = let e = pieces_length in pick_past (pieces_of plan) n (omega arith)
 
+-- where each piece has a byte, an element has no more pieces than bytes
+pub count_few : (s z : ℕ → ℕ) (n : ℕ) → ((k : ℕ) → k < n → 1 ≤ z k) → count_at s n ≤ begin_at s z n
+count_few s z zero some = le_refl 0
+count_few s z (suc n) some =
+    let before = count_few s z n (λ k h. some k (omega arith)) in
+    let here = mul-le (s n) 1 (s n) (z n) (le_refl (s n)) (some n (omega arith)) in
+    omega arith
+
+-- the pieces of a layout are no more than the bytes of its file
+pub pieces_few : (layout : Layout) → layout.table.elements * count_at (slices_in layout.table) layout.table.level_count ≤ 1073741824
+pieces_few layout =
+    let t = layout.table in
+    let few = count_few (slices_in t) (size_in t) t.level_count (λ k h. (layout.chained k h).1) in
+    let m = mul-le t.elements (count_at (slices_in t) t.level_count) t.elements (begin_at (slices_in t) (size_in t) t.level_count) (le_refl t.elements) few in
+    let a = layout.ended.1 in
+    let b = layout.ended.2 in
+    let c = layout.ended.3 in
+    omega arith
+
+-- the slices of the first levels of a list, as a sum
+pub count_sum : (xs : List Level) (n : ℕ) → n ≤ length xs → sum_by (λ (l : Level). l.slices) (take n xs) ≡ count_at (λ k. (get_or xs k blank).slices) n
+count_sum xs zero h = refl
+count_sum xs (suc n) h =
+    subst (λ m. sum_by (λ (l : Level). l.slices) (take m xs) ≡ count_at (λ k. (get_or xs k blank).slices) (suc n)) (add-one n)
+    (sum_by_more (λ (l : Level). l.slices) xs n blank (omega arith) ∙ ap (λ m. m + (get_or xs n blank).slices) (count_sum xs n (omega arith)))
+
 count_grows : (s : ℕ → ℕ) (m n : ℕ) → count_at s m ≤ count_at s (n + m)
 count_grows s m zero = subst (λ k. count_at s m ≤ count_at s k) (sym (zero-add m)) (le_refl (count_at s m))
 count_grows s m (suc n) = let r = count_grows s m n in subst (λ k. count_at s m ≤ count_at s k) (sym (suc-add n m)) (omega arith)
@@ -181,23 +212,36 @@ module _ (t : Table) (counted : Counted t) (chained : Chained t) where
       let m = mul-le t.elements per (n / per) per h (le_refl per) in
       pieces_past (plan_in t) n (omega arith)
 
--- the same for a layout, by the values that its steps answered
-module _ (layout : Layout) (t : Table) (is : t ≡ layout.table) (counted : Counted t) (chained : Chained t) (per : ℕ)
-    (all : per ≡ count_at (slices_in t) t.level_count) where
+-- the same for a layout, by the number of pieces that an element has
+module _ (layout : Layout) (per : ℕ) (all : per ≡ count_at (slices_in layout.table) layout.table.level_count) where
   pub per_some : 0 < per
-  per_some = let s = count_some t counted chained in omega arith
+  per_some = let s = count_some layout.table layout.counted layout.chained in omega arith
 
-  pub piece_found : (n l s : ℕ) → n / per < t.elements → l < t.level_count → s < slices_in t l → n % per ≡ count_at (slices_in t) l + s
+  pub piece_found : (n l s : ℕ) → n / per < layout.table.elements → l < layout.table.level_count → s < slices_in layout.table l
+      → n % per ≡ count_at (slices_in layout.table) l + s
       → Some (piece_at (n / per) l s) ≡ piece_numbered layout n
   piece_found n l s few level slice rest =
       ap (λ m. Some (piece_at (n / m) l s)) all
-      ∙ sym (number_pick t counted chained n l s (subst (λ m. n / m < t.elements) all few) level slice (subst (λ m. n % m ≡ count_at (slices_in t) l + s) all rest))
-      ∙ ap (λ (y : Table). pick (pieces_of (plan_in y)) n) is
+      ∙ sym (number_pick layout.table layout.counted layout.chained n l s (subst (λ m. n / m < layout.table.elements) all few) level slice
+      (subst (λ m. n % m ≡ count_at (slices_in layout.table) l + s) all rest))
 
-  pub piece_none : (n : ℕ) → t.elements ≤ n / per → None ≡ piece_numbered layout n
-  piece_none n h =
-      sym (number_past t counted chained n (subst (λ m. t.elements ≤ n / m) all h)) ∙ ap (λ (y : Table). pick (pieces_of (plan_in y)) n) is
+  pub piece_none : (n : ℕ) → layout.table.elements ≤ n / per → None ≡ piece_numbered layout n
+  piece_none n h = sym (number_past layout.table layout.counted layout.chained n (subst (λ m. layout.table.elements ≤ n / m) all h))
 
   -- every number in an element has a piece there
-  pub rest_below : (n : ℕ) → count_at (slices_in t) t.level_count ≤ n % per → ⊥
+  pub rest_below : (n : ℕ) → count_at (slices_in layout.table) layout.table.level_count ≤ n % per → ⊥
   rest_below n h = let m = mod_below n per per_some in omega arith
+
+-- where a list has an entry at a number, what is left from there on begins with it
+pub numbered_left : (xs : List Placed) (n : ℕ) (p : Piece) → option_map (λ (x : Placed). x.piece) (numbered xs n) ≡ Some p
+    → (drop n (map (λ (x : Placed). x.piece) xs) ≡ p ∷ drop (suc n) (map (λ (x : Placed). x.piece) xs)) × (n < length xs)
+numbered_left [] n p e = absurd (none-some p e)
+numbered_left (x ∷ xs) zero p e = (ap (λ q. q ∷ map (λ (y : Placed). y.piece) xs) (ap (λ (o : Option Piece). unwrap_or o p) e), omega arith)
+numbered_left (x ∷ xs) (suc n) p e = let r = numbered_left xs n p e in (r.0, omega arith)
+
+-- else nothing is left
+pub numbered_past : (xs : List Placed) (n : ℕ) → option_map (λ (x : Placed). x.piece) (numbered xs n) ≡ None
+    → drop n (map (λ (x : Placed). x.piece) xs) ≡ []
+numbered_past [] n e = drop-nil n
+numbered_past (x ∷ xs) zero e = absurd (none-some x.piece (sym e))
+numbered_past (x ∷ xs) (suc n) e = numbered_past xs n e

@@ -80,33 +80,30 @@ tiled layout =
       leads = leads layout;
     }
 
--- a piece that was found in the table, with its level
-pub record Found (layout : Layout) (t : Table) (l : Level) (p : Piece) : Type 0 where
-  pub table : t ≡ layout.table
+-- a piece that was found in a layout, with its level
+pub record Found (layout : Layout) (l : Level) (p : Piece) : Type 0 where
   pub some : p.level < layout.table.level_count
   pub level : l ≡ get_or layout.table.levels p.level blank
-  pub element : p.element < t.elements
+  pub element : p.element < layout.table.elements
   pub slice : p.slice < l.slices
 
-module _ {layout : Layout} {t : Table} {l : Level} {p : Piece} (f : Found layout t l p) where
+module _ {layout : Layout} {l : Level} {p : Piece} (f : Found layout l p) where
   found_exists : Exists (plan_in layout.table) p
   found_exists =
-      let a = ap (λ (x : Table). x.elements) f.table in
       let b = ap (λ (x : Level). x.slices) f.level in
-      let c = f.element in
       let d = f.slice in
-      (omega arith, f.some, omega arith)
+      (f.element, f.some, omega arith)
 
-  found_place : place_with t l p ≡ place_in layout.table p
-  found_place = λ i. place_with (f.table i) (f.level i) p
+  found_place : place_with layout.table l p ≡ place_in layout.table p
+  found_place = ap (λ (x : Level). place_with layout.table x p) f.level
 
-  pub found_fits : place_with t l p ≤ 1073741824
+  pub found_fits : place_with layout.table l p ≤ 1073741824
   found_fits =
       let a = entry_fits layout.table layout.chained layout.ended p found_exists in
       let b = found_place in
       omega arith
 
-  pub found_area : (place length : ℕ) → place ≡ place_with t l p → length ≡ piece_length l
+  pub found_area : (place length : ℕ) → place ≡ place_with layout.table l p → length ≡ piece_length l
       → AreaOf layout p (record { place = place; length = length; row_bytes = l.row_bytes; rows = l.rows })
   found_area place length e m = record {
     stands =
@@ -118,7 +115,7 @@ module _ {layout : Layout} {t : Table} {l : Level} {p : Piece} (f : Found layout
     length = m;
   }
 
-  pub found_where : (place length : ℕ) → place ≡ place_with t l p → length ≡ piece_length l
+  pub found_where : (place length : ℕ) → place ≡ place_with layout.table l p → length ≡ piece_length l
       → Ok (record { place = place; length = length; row_bytes = l.row_bytes; rows = l.rows }) ≡ where_in layout.table p
   found_where place length e m =
       let h = found_exists in

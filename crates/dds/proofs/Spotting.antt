@@ -1,7 +1,11 @@
 -- From a byte's offset in its element to its level, slice and offset there, by the numbers of a sound table.
-use Rattle.std.proofs.Common.{◌≡◌, ℕ, zero, suc, ◌+◌, ◌-◌, ◌*◌, ◌/◌, ◌%◌, ◌<◌, ◌≤◌, ◌⊎◌, get_or, sym, refl, ap, ◌∙◌, subst, ⊎_elim, le_refl, suc-add, div-add-mod', zero-add, add-one, arith}
+use Rattle.std.proofs.Common.{◌≡◌, ℕ, zero, suc, ◌+◌, ◌-◌, ◌*◌, ◌/◌, ◌%◌, ◌<◌, ◌≤◌, ◌⊎◌, true, false, List, length, take, nat_le, get_or, sym, refl, ap, ◌∙◌, subst, ⊎_elim, le_refl, suc-add, div-add-mod', zero-add, add-one, arith}
 use Rattle.std.proofs.lemmas.Nat.{div_below, mod_below, mul-le}
-use Rattle.std.proofs.lemmas.Bool.{cases_order}
+use Rattle.std.proofs.lemmas.Bool.{cases_lt, cases_order}
+use Rattle.std.proofs.lemmas.Bool.Decides.{nat_tests}
+use Rattle.std.proofs.lemmas.List.{get_or-take, get_or_default, length-take}
+use Rattle.std.specs.List.Sorted.{IsPartitionedBy, IsPartitionPoint}
+use Rattle.dds.specs.declared.level.Level.{Level}
 use Rattle.dds.specs.declared.piece.Piece.{Piece}
 use Rattle.dds.specs.declared.places.Spot.{Spot}
 use Rattle.dds.specs.declared.table.Table.{Table}
@@ -44,6 +48,55 @@ module _ (t : Table) (counted : Counted t) (chained : Chained t) (ended : Ended 
       let w = begin_within (slices_in t) (size_in t) 0 t.level_count counted.0 in
       let e = ended.0 in
       omega arith
+
+  -- a level begins where the rules say, also in the front of the table
+  begin_in : (k : ℕ) (d : Level) → t.level_count ≤ length t.levels → k < t.level_count → (get_or (take t.level_count t.levels) k d).begin ≡ begin_at (slices_in t) (size_in t) k
+  begin_in k d room h =
+      ap (λ (l : Level). l.begin) (get_or-take t.level_count t.levels k d h ∙ get_or_default t.levels k d blank (omega arith)) ∙ (chained k h).2
+
+  as_long : (xs : List Level) → xs ≡ take t.level_count t.levels → length xs ≡ t.level_count → t.level_count ≤ length t.levels
+  as_long xs is long = let m = ap length is ∙ length-take t.level_count t.levels in omega arith
+
+  -- those levels come first that do not begin behind an offset
+  pub begins_split : (offset : ℕ) (xs : List Level) → xs ≡ take t.level_count t.levels → length xs ≡ t.level_count
+      → IsPartitionedBy (λ (l : Level). nat_le l.begin offset) xs
+  begins_split offset xs is long i j d h few below =
+      let s = slices_in t in
+      let z = size_in t in
+      let room = as_long xs is long in
+      let here = ap (λ (ys : List Level). (get_or ys i d).begin) is ∙ begin_in i d room (omega arith) in
+      let there = ap (λ (ys : List Level). (get_or ys j d).begin) is ∙ begin_in j d room (omega arith) in
+      let e : j - i + i ≡ j = omega arith in
+      let grows = subst (λ n. begin_at s z i ≤ begin_at s z n) e (begin_grows s z i (j - i)) in
+      grind (arith, nat_tests)
+
+  -- the last of them is the level that holds the offset
+  pub holding : (offset i : ℕ) (xs : List Level) → xs ≡ take t.level_count t.levels → length xs ≡ t.level_count → i ≤ length xs
+      → IsPartitionPoint (λ (l : Level). nat_le l.begin offset ≡ true) (λ (l : Level). nat_le l.begin offset ≡ false) xs i
+      → (1 ≤ i) × ((get_or t.levels (i - 1) blank).begin ≤ offset)
+      × (i - 1 + 1 < t.level_count → offset < (get_or t.levels (i - 1 + 1) blank).begin)
+  holding offset i xs is long few point =
+      let room = as_long xs is long in
+      let some : 1 ≤ i
+      = ⊎_elim
+      (λ (none : i < 1).
+      let first = begin_in 0 blank room counted.0 in
+      let same = ap (λ (ys : List Level). (get_or ys 0 blank).begin) is in
+      let past = point.1 0 blank (omega arith) (omega arith) in
+      absurd (grind (arith, nat_tests)))
+      (λ (h : 1 ≤ i). h)
+      (cases_lt i 1) in (
+        some,
+        (let a = point.0 (i - 1) blank (omega arith) (omega arith) in
+            let b = ap (λ (ys : List Level). (get_or ys (i - 1) blank).begin) is ∙ begin_in (i - 1) blank room (omega arith) in
+            let c = (chained (i - 1) (omega arith)).2 in
+            grind (arith, nat_tests)),
+        (λ more.
+            let a = point.1 (i - 1 + 1) blank (omega arith) (omega arith) in
+            let b = ap (λ (ys : List Level). (get_or ys (i - 1 + 1) blank).begin) is ∙ begin_in (i - 1 + 1) blank room more in
+            let c = (chained (i - 1 + 1) more).2 in
+            grind (arith, nat_tests)),
+      )
 
   -- an offset in the level that was found lies before the level's end
   pub before_end : (k offset : ℕ) → k < t.level_count → offset < t.stride

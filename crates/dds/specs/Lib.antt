@@ -11,6 +11,4 @@ pub mod Places
 pub mod Spots
 pub mod Counts
 pub mod Figures
-pub mod Facts
-pub mod Rows
 pub mod Texts

@@ -40,12 +40,11 @@ pub(crate) fn chain_of<F: Family>(family: &F, first: Sides, count: u32) -> Chain
     requires { (InRange first) × (count ≤ 15) }
     ensures { IsChain (F.row_bytes family.now) (F.rows family.now) first count result }
 {
-    let mut levels = [Level::BLANK; 15];
+    let mut levels = [Level::default(); 15];
     let mut sides = first;
     let mut begin = 0;
-    for k in 0..count {
-        let level = level_of(family, sides, begin);
-        levels[k as usize] = level;
+    for level in &mut levels[..count as usize] {
+        *level = level_of(family, sides, begin);
         begin = level.end();
         sides = sides.halved();
     }

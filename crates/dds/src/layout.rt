@@ -1,5 +1,5 @@
 // The layout of an accepted file.
-ghost use Rattle.std.specs.Prelude.{◌≡◌};
+ghost use Rattle.std.specs.Prelude.{◌≡◌, length, take};
 ghost use Rattle.dds.specs.Sound.{Counted, Chained, Ended, empty_table};
 
 use crate::level::Level;
@@ -8,7 +8,7 @@ use crate::table::Table;
 // Where all pieces of an accepted file stand: a table in which they follow one another without a gap.
 #[derive(Clone, Copy)]
 pub struct Layout {
-    table: Table,
+    pub(crate) table: Table,
     ghost counted: { Counted table },
     ghost chained: { Chained table },
     ghost ended: { Ended table },
@@ -19,7 +19,8 @@ impl Layout {
     pub fn empty() -> Layout
         ensures { result.table ≡ empty_table }
     {
-        let level = Level {
+        let mut levels = [Level::default(); 15];
+        levels[0] = Level {
             width: 1,
             height: 1,
             slices: 1,
@@ -27,8 +28,6 @@ impl Layout {
             rows: 1,
             begin: 0,
         };
-        let mut levels = [Level::BLANK; 15];
-        levels[0] = level;
         Layout {
             table: Table {
                 levels,
@@ -49,20 +48,11 @@ impl Layout {
         self.table.length
     }
 
-    pub(crate) fn of(table: Table) -> Layout
-        requires { (Counted table) × ((Chained table) × (Ended table)) }
-        ensures { result.table ≡ table }
+    // The levels of every element.
+    pub(crate) fn levels(&self) -> &[Level]
+        ensures levels { result.now ≡ take self.now.table.level_count self.now.table.levels }
+        ensures count { length result.now ≡ self.now.table.level_count }
     {
-        Layout { table }
-    }
-
-    // The table by which everything else is found.
-    pub(crate) fn table(&self) -> &Table
-        ensures value { result.now ≡ self.now.table }
-        ensures counted { Counted result.now }
-        ensures chained { Chained result.now }
-        ensures ended { Ended result.now }
-    {
-        &self.table
+        &self.table.levels[..self.table.level_count as usize]
     }
 }

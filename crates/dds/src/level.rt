@@ -3,8 +3,8 @@ ghost use Rattle.std.specs.Prelude.{◌≡◌, ◌*◌, ◌^◌, ◌<◌};
 ghost use Rattle.dds.specs.LevelEnds.{level_end};
 
 // A level: the sides of its images, how many slices it has, what each image takes, and where the level begins in its
-// element, counted in bytes from the element's first.
-#[derive(Clone, Copy, PartialEq, Eq, Debug)]
+// element, counted in bytes from the element's first. The default, which is all zeros, stands in a table behind its last level.
+#[derive(Clone, Copy, PartialEq, Eq, Debug, Default)]
 pub struct Level {
     pub width: u32,
     pub height: u32,
@@ -15,16 +15,6 @@ pub struct Level {
 }
 
 impl Level {
-    // What stands in a table behind its last level.
-    pub(crate) const BLANK: Level = Level {
-        width: 0,
-        height: 0,
-        slices: 0,
-        row_bytes: 0,
-        rows: 0,
-        begin: 0,
-    };
-
     // The bytes of one image.
     pub fn piece_length(&self) -> u64
         ensures { result ≡ self.now.row_bytes * self.now.rows }

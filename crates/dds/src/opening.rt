@@ -5,6 +5,7 @@ ghost use Rattle.dds.specs.Layouts.{TableOf, LaidOut, Opened, OpenedBy};
 ghost use Rattle.dds.specs.Plans.{pixel_begin};
 
 use crate::filling::chain_of;
+use crate::head::FileHead;
 use crate::header::Header;
 use crate::layout::Layout;
 use crate::shape::Shape;
@@ -66,37 +67,28 @@ fn lay_out<F: Family>(
     if table.pixel_end != length {
         return Err(Refusal::WrongEnd);
     }
-    Ok(Layout::of(table))
+    Ok(Layout { table })
 }
 
 impl Layout {
-    // The layout of a file for any family, from the file's head, which is its first 148 bytes or the whole of a shorter one,
-    // and its length. No format table is read. Refuses with WrongLength, WrongMagic, WrongHeaderSize, ShortExtendedHeader,
-    // NoShape, OutOfRange, TooManyLevels or WrongEnd, in this order.
-    pub fn read_with<F: Family>(head: &[u8], length: u64, family: &F) -> Result<Layout, Refusal>
-        ensures { Opened head.now length (F.row_bytes family.now) (F.rows family.now) result }
+    // The layout of a file for any family, from the file's head and its length. No format table is read. Refuses with
+    // WrongLength, WrongMagic, WrongHeaderSize, ShortExtendedHeader, NoShape, OutOfRange, TooManyLevels or WrongEnd, in this
+    // order.
+    pub fn read_with<F: Family>(head: FileHead<'_>, family: &F) -> Result<Layout, Refusal>
+        ensures { Opened head.entry.bytes.now head.entry.length (F.row_bytes family.now) (F.rows family.now) result }
     {
-        let header = Header::read(head, length)?;
+        let header = Header::read(head)?;
         let shape = header.read_shape()?;
-        lay_out(&header, shape, length, family)
+        lay_out(&header, shape, head.length, family)
     }
 
     // The layout of a file by the format that its header names, with a table of the codes other than DX10. Refuses as
     // `read_with` does, and with UnknownFormat right after ShortExtendedHeader.
-    pub fn read<T: CodeTable>(head: &[u8], length: u64, codes: &T) -> Result<Layout, Refusal>
-        ensures { OpenedBy head.now length (T.name_at codes.now) result }
+    pub fn read<T: CodeTable>(head: FileHead<'_>, codes: &T) -> Result<Layout, Refusal>
+        ensures { OpenedBy head.entry.bytes.now head.entry.length (T.name_at codes.now) result }
     {
-        let header = Header::read(head, length)?;
-        match header.format(codes) {
-            Some(format) => Layout::read_with(head, length, &format),
-            None => Err(Refusal::UnknownFormat),
-        }
+        let header = Header::read(head)?;
+        let format = header.format(codes).ok_or(Refusal::UnknownFormat)?;
+        Layout::read_with(head, &format)
     }
-}
-
-// The head of a file: its first 148 bytes, or the whole of a shorter one.
-pub fn head_of(file: &[u8]) -> &[u8]
-    ensures { result.now ≡ take 148 file.now }
-{
-    &file[0..file.len().min(148)]
 }

@@ -4,6 +4,7 @@ ghost use Rattle.std.specs.Option.{option_map};
 ghost use Rattle.formats.specs.Names.{name_of};
 ghost use Rattle.dds.specs.Headers.{word, has_magic, header_of, header_read, is_extended, code_decides, header_name};
 
+use crate::head::FileHead;
 use crate::header::Header;
 use formats::{CodeTable, Format, bit_count_format, dxgi_format};
 use refusal::Refusal;
@@ -25,7 +26,7 @@ const LONGEST: u64 = 1_073_741_824;
 fn byte_at(bytes: &[u8], place: usize) -> u8
     ensures { result ≡ slice_index bytes.now place }
 {
-    if place < bytes.len() { bytes[place] } else { 0 }
+    bytes.get(place).copied().unwrap_or_default()
 }
 
 // The number whose lowest byte stands at a place.
@@ -89,17 +90,16 @@ impl Header {
         self.code_decides() && self.code == DX10
     }
 
-    // The header of a file, from its head, which is its first 148 bytes or the whole of a shorter one, and its length.
-    // Refuses with WrongLength, WrongMagic, WrongHeaderSize or ShortExtendedHeader, in this order.
-    pub fn read(head: &[u8], length: u64) -> Result<Header, Refusal>
-        ensures { result ≡ header_read head.now length }
+    // The header of a file, from its head and its length. Refuses with WrongLength, WrongMagic, WrongHeaderSize or
+    // ShortExtendedHeader, in this order.
+    pub fn read(head: FileHead<'_>) -> Result<Header, Refusal>
+        ensures { result ≡ header_read head.entry.bytes.now head.entry.length }
     {
+        let FileHead { bytes, length } = head;
         if length < SHORTEST || length > LONGEST {
             return Err(Refusal::WrongLength);
         }
-        let Some(rest) = after_magic(head) else {
-            return Err(Refusal::WrongMagic);
-        };
+        let rest = after_magic(bytes).ok_or(Refusal::WrongMagic)?;
         let header = Header::after(rest);
         if header.header_size != 124 || header.pixel_format_size != 32 {
             return Err(Refusal::WrongHeaderSize);

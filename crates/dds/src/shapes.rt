@@ -90,9 +90,7 @@ impl Header {
     pub fn read_shape(&self) -> Result<Shape, Refusal>
         ensures { result ≡ shape_read self.now }
     {
-        let Some(shape) = self.shape() else {
-            return Err(Refusal::NoShape);
-        };
+        let shape = self.shape().ok_or(Refusal::NoShape)?;
         if !self.is_in_range(shape) {
             return Err(Refusal::OutOfRange);
         }

@@ -17,7 +17,7 @@ pub struct Chain {
 }
 
 // Where all pieces of a file stand. The first `level_count` entries of `levels` are the levels of every element; the others
-// are blank. An element's bytes are `stride`; pixel data run from `pixel_begin` to `pixel_end`; the file has `length` bytes.
+// are blank. It is an array with a count, since a layout takes no memory of the heap and is copied, which an ArrayVec is not. An element's bytes are `stride`; pixel data run from `pixel_begin` to `pixel_end`; the file has `length` bytes.
 #[derive(Clone, Copy)]
 pub struct Table {
     pub levels: [Level; 15],

@@ -1,5 +1,6 @@
-// Where the last piece of a file ends, found by walking over the pieces.
-ghost use Rattle.std.specs.Prelude.{◌≡◌, ◌+◌, ◌*◌, ◌^◌, ◌<◌, ◌≤◌, length, drop};
+// Where the last piece of a file ends, found by walking over the pieces: two steps that hand over to each other, the form that
+// docs/ARCHITECTURE.md gives the walk.
+ghost use Rattle.std.specs.Prelude.{◌≡◌, ◌+◌, ◌*◌, ◌^◌, ◌<◌};
 ghost use Rattle.dds.specs.LevelEnds.{total_of};
 
 use crate::level::Level;
@@ -14,19 +15,21 @@ pub(crate) fn element_step(levels: &[Level], elements_left: u64, place: u64) -> 
     if elements_left == 0 {
         return place;
     }
-    level_step(levels, elements_left - 1, 0, place)
+    level_step(levels, elements_left - 1, levels, place)
 }
 
-// The same from a level of an element on, with so many elements behind it. A level's slices all have the same length.
+// The same from the levels of an element on that are left, with so many elements behind it. A level's slices all have the same
+// length.
 #[cycle(element_step_level_step)]
-fn level_step(levels: &[Level], elements_left: u64, level: usize, place: u64) -> u64
-    requires { (level ≤ length levels.now) × (place + total_of (drop level levels.now) + elements_left * total_of levels.now < 2 ^ 64) }
-    ensures { result ≡ place + total_of (drop level levels.now) + elements_left * total_of levels.now }
+fn level_step(levels: &[Level], elements_left: u64, levels_left: &[Level], place: u64) -> u64
+    requires { place + total_of levels_left.now + elements_left * total_of levels.now < 2 ^ 64 }
+    ensures { result ≡ place + total_of levels_left.now + elements_left * total_of levels.now }
 {
-    if level == levels.len() {
-        return element_step(levels, elements_left, place);
+    match levels_left {
+        [] => element_step(levels, elements_left, place),
+        [level, rest @ ..] => {
+            let length = level.slices as u64 * level.piece_length();
+            level_step(levels, elements_left, rest, place + length)
+        }
     }
-    let slices = levels[level].slices as u64;
-    let length = levels[level].piece_length();
-    level_step(levels, elements_left, level + 1, place + slices * length)
 }

@@ -1,26 +1,21 @@
 // Heads of files, made from words.
-use crate::expected::{BASES, CHANGES};
+use crate::expected::Change;
 use std::alloc::Global;
 use std::process::Abort;
 use std::test::Fail;
 
-// The 148 bytes of the head of a line: a base head with the line's changes.
-pub(crate) fn head_at(
+// The 148 bytes of a head: a base head with changes.
+pub(crate) fn head_with(
     rt: &impl Abort,
     heap: Global,
-    base: usize,
-    line: u32,
+    base: &[u32; 37],
+    changes: &[Change],
 ) -> Result<Vec<u8>, Fail> {
-    let Some(words) = BASES.get(base) else {
-        return Err(Fail::new("no such base"));
-    };
-    let mut words = *words;
-    for change in &CHANGES {
-        if change.line == line {
-            let word = change.place / 4;
-            assert!(rt; word < 37);
-            words[word] = change.value;
-        }
+    let mut words = *base;
+    for change in changes {
+        let word = change.place / 4;
+        assert!(rt; word < 37);
+        words[word] = change.value;
     }
     let mut head = Vec::new(heap);
     for word in words {

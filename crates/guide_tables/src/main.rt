@@ -3,8 +3,9 @@
 // it uses none of this code.
 #![tactic(auto)]
 
-use dds::{Layout, measured_figures};
+use dds::{FileHead, Layout, measured_figures};
 use formats::BuiltInCodes;
+use listing::Row;
 use refusal::Refusal;
 use std::alloc::{AllocError, Global};
 use std::io;
@@ -159,11 +160,8 @@ fn print_table(rt: &HostRuntime, sample: &Sample, layout: &Layout) -> io::Result
     let name = sample.name;
     println!(rt; "{name}")?;
     let mut total = 0u64;
-    for number in 0..layout.piece_count() {
-        if let Some(piece) = layout.piece_number(number)
-            && piece.element == 0
-            && let Ok(row) = layout.row_of(piece)
-        {
+    for piece in layout.pieces().filter(|piece| piece.element == 0) {
+        if let Ok(row) = Row::of(layout, piece) {
             let width = row.width;
             let height = row.height;
             let slice = piece.slice;
@@ -177,8 +175,12 @@ fn print_table(rt: &HostRuntime, sample: &Sample, layout: &Layout) -> io::Result
 }
 
 fn print_sample(rt: &HostRuntime, sample: &Sample) -> io::Result<()> {
-    let head = head_bytes(rt.alloc(), sample)?;
-    match Layout::read(&head, sample.length, &BuiltInCodes) {
+    let bytes = head_bytes(rt.alloc(), sample)?;
+    let head = FileHead {
+        bytes: &bytes,
+        length: sample.length,
+    };
+    match Layout::read(head, &BuiltInCodes) {
         Ok(layout) => print_table(rt, sample, &layout),
         Err(refusal) => println!(rt; "{refusal}"),
     }

@@ -1,10 +1,9 @@
 -- What is told of a piece, and of a byte.
-use Rattle.std.specs.Prelude.{◌≡◌, ℕ, Some, None, Ok, Err, Option, Result, slice_index_or}
+use Rattle.std.specs.Prelude.{◌≡◌, ℕ, Ok, Err, Result, slice_index_or}
 use Rattle.refusal.specs.declared.Refusal.{Refusal}
 use Rattle.dds.specs.declared.layout.Layout.{Layout}
 use Rattle.dds.specs.declared.piece.Piece.{Piece}
 use Rattle.listing.specs.declared.row.Owner.{Owner}
-use Rattle.listing.specs.declared.row.Owner.TheVariants.{Nobody, Byte}
 use Rattle.listing.specs.declared.row.Row.{Row}
 use Rattle.dds.specs.Places.{WhereIs, WhoseIs}
 use Rattle.dds.specs.Tables.{blank}
@@ -16,11 +15,7 @@ RowOf layout p (Ok row) =
     × (row.height ≡ (slice_index_or layout.table.levels p.level blank).height) × WhereIs layout p (Ok row.area)
 RowOf layout p (Err e) = WhereIs layout p (Err e)
 
-abbrev answer_of : Owner → Option (Piece × ℕ)
-answer_of Nobody = None
-answer_of (Byte piece offset) = Some (piece, offset)
-
 -- a byte's owner is what dds answers of it
 abbrev pub OwnerAt : Layout → ℕ → Result Owner Refusal → Type 0
-OwnerAt layout place (Ok owner) = WhoseIs layout place (Ok (answer_of owner))
+OwnerAt layout place (Ok owner) = WhoseIs layout place (Ok owner.0)
 OwnerAt layout place (Err e) = WhoseIs layout place (Err e)

@@ -2,7 +2,7 @@
 ghost use Rattle.std.specs.Prelude.{◌≡◌};
 ghost use Rattle.listing.specs.Facts.{facts_read};
 
-use dds::{Header, Shape};
+use dds::{FileHead, Header, Shape};
 use formats::{BuiltInCodes, FormatName};
 use refusal::Refusal;
 
@@ -17,18 +17,16 @@ pub struct Facts {
 }
 
 impl Facts {
-    // From a file's head, which is its first 148 bytes or the whole of a shorter one, and its length, with the built-in table of
-    // codes. Refuses as opening does, but does not look where the pieces end.
-    pub fn read(head: &[u8], length: u64) -> Result<Facts, Refusal>
-        ensures { result ≡ facts_read head.now length }
+    // From a file's head and its length, with the built-in table of codes. Refuses as opening does, but does not look where the
+    // pieces end.
+    pub fn read(head: FileHead<'_>) -> Result<Facts, Refusal>
+        ensures { result ≡ facts_read head.entry.bytes.now head.entry.length }
     {
-        let header = Header::read(head, length)?;
-        let Some(format) = header.format(&BuiltInCodes) else {
-            return Err(Refusal::UnknownFormat);
-        };
+        let header = Header::read(head)?;
+        let format = header.format(&BuiltInCodes).ok_or(Refusal::UnknownFormat)?;
         let shape = header.read_shape()?;
         Ok(Facts {
-            format: format.name(),
+            format: FormatName::from(format),
             shape,
             width: header.width,
             height: header.height,

@@ -7,4 +7,3 @@ mod text;
 
 pub use facts::Facts;
 pub use row::{Owner, Row};
-pub use text::{AreaWords, ShapeWords};

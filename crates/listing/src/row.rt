@@ -19,33 +19,26 @@ impl Row {
         ensures { RowOf layout.now piece result }
     {
         let area = layout.place_of(piece)?;
-        match layout.level(piece.level) {
-            Some(level) => Ok(Row {
-                piece,
-                width: level.width,
-                height: level.height,
-                area,
-            }),
-            None => Err(Refusal::NoSuchPiece),
-        }
+        let level = layout.level(piece.level).ok_or(Refusal::NoSuchPiece)?;
+        Ok(Row {
+            piece,
+            width: level.width,
+            height: level.height,
+            area,
+        })
     }
 }
 
-// Whose byte stands at a place: a piece's, at an offset in it, or nobody's, as those of the header.
+// Whose byte stands at a place, as a layout answers it: a piece's, at an offset in it, or nobody's, as those of the header. It is a
+// type of its own since an Option has no text.
 #[derive(Clone, Copy, PartialEq, Eq, Debug)]
-pub enum Owner {
-    Nobody,
-    Byte(Piece, u32),
-}
+pub struct Owner(pub Option<(Piece, u32)>);
 
 impl Owner {
     // Whose byte stands at a place. Refuses with PastFileEnd.
     pub fn at(layout: &Layout, place: u64) -> Result<Owner, Refusal>
         ensures { OwnerAt layout.now place result }
     {
-        match layout.piece_at(place)? {
-            Some((piece, offset)) => Ok(Owner::Byte(piece, offset)),
-            None => Ok(Owner::Nobody),
-        }
+        Ok(Owner(layout.piece_at(place)?))
     }
 }

@@ -1,35 +1,10 @@
 // The lines that tell of a file and its pieces.
 ghost use Rattle.std.specs.Prelude.{Some};
-ghost use Rattle.listing.specs.Texts.{shape_text, facts_text, area_text, row_text, owner_text};
+ghost use Rattle.listing.specs.Texts.{facts_text, row_text, owner_text};
 
 use crate::facts::Facts;
 use crate::row::{Owner, Row};
-use dds::{Area, Piece, Shape};
 use std::fmt;
-
-// A shape and an area as parts of a line: only a type of this crate can be given a text here.
-#[derive(Clone, Copy)]
-pub struct ShapeWords {
-    pub shape: Shape,
-}
-
-#[derive(Clone, Copy)]
-pub struct AreaWords {
-    pub area: Area,
-}
-
-impl fmt::Display for ShapeWords {
-    ghost output = { λ words. Some (shape_text words.shape) };
-
-    fn fmt<W: fmt::Write>(&self, f: &mut fmt::Formatter<W>) -> fmt::Result {
-        match self.shape {
-            Shape::Line(count) => write!(f, "line array of {count}"),
-            Shape::Flat(count) => write!(f, "flat array of {count}"),
-            Shape::Cube(count) => write!(f, "cube array of {count}"),
-            Shape::Volume(depth) => write!(f, "volume of depth {depth}"),
-        }
-    }
-}
 
 impl fmt::Display for Facts {
     ghost output = { λ facts. Some (facts_text facts) };
@@ -42,22 +17,7 @@ impl fmt::Display for Facts {
             height,
             levels,
         } = *self;
-        let words = ShapeWords { shape };
-        write!(f, "{format}, {words}, {width} x {height}, levels {levels}")
-    }
-}
-
-impl fmt::Display for AreaWords {
-    ghost output = { λ words. Some (area_text words.area) };
-
-    fn fmt<W: fmt::Write>(&self, f: &mut fmt::Formatter<W>) -> fmt::Result {
-        let Area {
-            place,
-            length,
-            row_bytes,
-            rows,
-        } = self.area;
-        write!(f, "{place} {length} {row_bytes} {rows}")
+        write!(f, "{format}, {shape}, {width} x {height}, levels {levels}")
     }
 }
 
@@ -65,15 +25,13 @@ impl fmt::Display for Row {
     ghost output = { λ row. Some (row_text row) };
 
     fn fmt<W: fmt::Write>(&self, f: &mut fmt::Formatter<W>) -> fmt::Result {
-        let Piece {
-            element,
-            level,
-            slice,
-        } = self.piece;
-        let width = self.width;
-        let height = self.height;
-        let words = AreaWords { area: self.area };
-        write!(f, "{element} {level} {slice} {width} {height} {words}")
+        let Row {
+            piece,
+            width,
+            height,
+            area,
+        } = *self;
+        write!(f, "{piece} {width} {height} {area}")
     }
 }
 
@@ -81,16 +39,9 @@ impl fmt::Display for Owner {
     ghost output = { λ owner. Some (owner_text owner) };
 
     fn fmt<W: fmt::Write>(&self, f: &mut fmt::Formatter<W>) -> fmt::Result {
-        match *self {
-            Owner::Nobody => write!(f, "header"),
-            Owner::Byte(
-                Piece {
-                    element,
-                    level,
-                    slice,
-                },
-                offset,
-            ) => write!(f, "{element} {level} {slice} {offset}"),
+        match self.0 {
+            None => write!(f, "header"),
+            Some((piece, offset)) => write!(f, "{piece} {offset}"),
         }
     }
 }

@@ -1,10 +1,9 @@
 -- What a run leaves, and that the law holds of it.
-use Rattle.std.proofs.Common.{◌≡◌, ℕ, Bool, true, eqb, List, [], ◌++◌, length, take, Some, Ok, Result, sym, refl, ap, ◌∙◌, subst, ap₂, subst₂}
+use Rattle.std.proofs.Common.{◌≡◌, ℕ, Bool, true, eqb, List, [], ◌++◌, length, take, Some, Ok, Result, sym, refl, ap, ◌∙◌, subst, ap₂}
 use Rattle.std.proofs.lemmas.List.{nil_from_length}
 use Rattle.std.proofs.lemmas.Bool.{and_parts, eqb-true}
 use Rattle.refusal.specs.declared.Refusal.{Refusal}
 use Rattle.dds.specs.declared.layout.Layout.{Layout}
-use Rattle.dds.specs.Layouts.{Opened}
 use Rattle.loans.specs.declared.docket.Docket.{Docket}
 use Rattle.loans.specs.declared.job.Job.{Job}
 use Rattle.loans.specs.Jobs.{book_of, fresh_book}
@@ -23,10 +22,10 @@ pub record OpenedJob (o : Ordered) (t : Job) : Type 0 where
   pub book : book_of t ≡ fresh_book t.layout.table (Some o.number)
 
 -- a job made of the layout that was read
-pub made_job : (o : Ordered) (t : Job) (y : Layout) (head : List ℕ) → head ≡ take 148 o.file → Opened head (length o.file) o.row_bytes o.rows (Ok y)
+pub made_job : (o : Ordered) (t : Job) (y : Layout) → OpenedAs o (Ok y)
     → t.layout ≡ y → book_of t ≡ fresh_book y.table (Some o.number) → OpenedJob o t
-made_job o t y head is opened layout book = record {
-  opened = subst₂ (λ (h : List ℕ) (x : Layout). Opened h (length o.file) o.row_bytes o.rows (Ok x)) is (sym layout) opened;
+made_job o t y opened layout book = record {
+  opened = subst (λ (x : Layout). OpenedAs o (Ok x)) (sym layout) opened;
   book = book ∙ ap (λ (x : Layout). fresh_book x.table (Some o.number)) (sym layout);
 }
 

@@ -7,7 +7,7 @@ ghost use Rattle.loans.specs.Opening.{OpenedWith, OpenedWithCodes};
 use crate::docket::Docket;
 use crate::job::Job;
 use crate::ledger::{Ledger, Loan, Report};
-use dds::{Area, Layout, Piece, head_of};
+use dds::{Area, FileHead, Layout, Piece};
 use formats::{CodeTable, Family};
 use refusal::Refusal;
 
@@ -50,7 +50,7 @@ impl Job {
         ensures opened { OpenedWith file.now number (F.row_bytes family.now) (F.rows family.now) self.old result self.new }
         ensures unspent { IfOk result (λ docket. docket.spent ≡ false) }
     {
-        let layout = Layout::read_with(head_of(file), file.len() as u64, family)?;
+        let layout = Layout::read_with(FileHead::of(file), family)?;
         *self = Job::fresh(layout, Some(number));
         Ok(Docket::of(number))
     }
@@ -65,7 +65,7 @@ impl Job {
         ensures opened { OpenedWithCodes file.now number (T.name_at codes.now) self.old result self.new }
         ensures unspent { IfOk result (λ docket. docket.spent ≡ false) }
     {
-        let layout = Layout::read(head_of(file), file.len() as u64, codes)?;
+        let layout = Layout::read(FileHead::of(file), codes)?;
         *self = Job::fresh(layout, Some(number));
         Ok(Docket::of(number))
     }

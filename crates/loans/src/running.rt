@@ -12,7 +12,7 @@ use crate::call::{Answer, Call};
 use crate::docket::Docket;
 use crate::job::Job;
 use crate::mark::Shelves;
-use dds::{Layout, head_of};
+use dds::{FileHead, Layout};
 use formats::Family;
 use refusal::Refusal;
 use std::alloc::AllocError;
@@ -131,7 +131,7 @@ pub fn run<F: Family>(
     ensures ran { Ran (record { file = file.old; number = number; row_bytes = F.row_bytes family.now; rows = F.rows family.now; shelves = shelves.old; calls = map deed_of calls.now; old = answers.old.items }) (vec_len answers.old) (vec_capacity answers.old) job.old result job.new file.new shelves.new answers.new.items }
     ensures unspent { IfOk result (λ docket. docket.spent ≡ false) }
 {
-    let layout = Layout::read_with(head_of(file), file.len() as u64, family)?;
+    let layout = Layout::read_with(FileHead::of(file), family)?;
     answers.reserve(calls.len())?;
     let mut opened = Job::fresh(layout, Some(number));
     opened.call_all(file, shelves, calls, shelves.are_empty(), answers);

@@ -1,13 +1,15 @@
 // Lists the pieces of a DDS file, or tells whose bytes stand at places of it.
 #![tactic(auto)]
 
-use dds::{Facts, Layout};
+use dds::{FileHead, Layout};
 use formats::BuiltInCodes;
+use listing::{Facts, Owner, Row};
 use refusal::Refusal;
 use std::fs::File;
 use std::io::Read;
 use std::process::ExitCode;
 use std::{env, io};
+use thiserror::Error;
 
 const USAGE: &str = "usage: pieces FILE            facts of a DDS file, and a table of its pieces
        pieces FILE PLACE...   for each byte place the piece and the offset in it, or 'header'
@@ -21,67 +23,63 @@ const HEADING: &str = "element level slice width height place length row-bytes r
 const HEAD: u64 = 148;
 
 // Why a file or a place could not be told of.
-#[derive(Drop)]
+#[derive(Debug, Drop, Error)]
 enum Fault {
-    Unreadable(io::Error),
-    Refused(Refusal),
+    #[error("{0}")]
+    Unreadable(#[from] io::Error),
+    #[error("{0}")]
+    Refused(#[from] Refusal),
+    #[error("a place is a number from 0 on")]
     NoPlace,
 }
 
-impl From<io::Error> for Fault {
-    fn from(error: io::Error) -> Fault {
-        Fault::Unreadable(error)
-    }
-}
-
-impl From<Refusal> for Fault {
-    fn from(refusal: Refusal) -> Fault {
-        Fault::Refused(refusal)
-    }
-}
-
-// A file's head and its length: all that is read of it.
+// What is read of a file: the bytes of its head, and its length.
 #[derive(Drop)]
 struct Source {
     head: Vec<u8>,
     length: u64,
 }
 
-fn read_source(rt: &HostRuntime, path: &str) -> io::Result<Source> {
-    let file = File::open(rt, path)?;
-    let length = file.metadata()?.len();
-    let mut head = Vec::new(rt.alloc());
-    let _ = file.take(HEAD).read_to_end(&mut head)?;
-    Ok(Source { head, length })
+impl Source {
+    fn read(rt: &HostRuntime, path: &str) -> io::Result<Source> {
+        let file = File::open(rt, path)?;
+        let length = file.metadata()?.len();
+        let mut head = Vec::new(rt.alloc());
+        let _ = file.take(HEAD).read_to_end(&mut head)?;
+        Ok(Source { head, length })
+    }
+
+    fn head(&self) -> FileHead<'_> {
+        FileHead {
+            bytes: &self.head,
+            length: self.length,
+        }
+    }
 }
 
-fn list(rt: &HostRuntime, source: &Source, layout: &Layout) -> Result<(), Fault> {
-    let facts = Facts::read(&source.head, source.length)?;
+fn list(rt: &HostRuntime, head: FileHead<'_>, layout: &Layout) -> Result<(), Fault> {
+    let facts = Facts::read(head)?;
     println!(rt; "{facts}")?;
     println!(rt; "{HEADING}")?;
-    for number in 0..layout.piece_count() {
-        if let Some(piece) = layout.piece_number(number) {
-            let row = layout.row_of(piece)?;
-            println!(rt; "{row}")?;
-        }
+    for piece in layout.pieces() {
+        let row = Row::of(layout, piece)?;
+        println!(rt; "{row}")?;
     }
     Ok(())
 }
 
 fn tell(rt: &HostRuntime, layout: &Layout, place: &str) -> Result<(), Fault> {
-    let Ok(place) = place.parse::<u64>() else {
-        return Err(Fault::NoPlace);
-    };
-    let owner = layout.owner_of(place)?;
+    let place = place.parse::<u64>().map_err(|_| Fault::NoPlace)?;
+    let owner = Owner::at(layout, place)?;
     Ok(println!(rt; "{owner}")?)
 }
 
 // With no places a list of all pieces, else a line for each place.
 fn run(rt: &HostRuntime, path: &str, places: &[String]) -> Result<(), Fault> {
-    let source = read_source(rt, path)?;
-    let layout = Layout::read(&source.head, source.length, &BuiltInCodes)?;
+    let source = Source::read(rt, path)?;
+    let layout = Layout::read(source.head(), &BuiltInCodes)?;
     if places.is_empty() {
-        return list(rt, &source, &layout);
+        return list(rt, source.head(), &layout);
     }
     for place in places {
         tell(rt, &layout, place.as_str())?;
@@ -92,19 +90,17 @@ fn run(rt: &HostRuntime, path: &str, places: &[String]) -> Result<(), Fault> {
 // What fails is told once, here; the status says that it did.
 fn main(rt: HostRuntime) -> io::Result<ExitCode> {
     let args: Vec<String> = env::args(&rt)?.skip(1).collect(rt.alloc())?;
-    let Some(path) = args.first() else {
-        println!(rt; "{USAGE}")?;
-        return Ok(ExitCode::SUCCESS);
+    let path = match args.first() {
+        Some(path) if path.as_str() != "--help" => path,
+        _ => {
+            println!(rt; "{USAGE}")?;
+            return Ok(ExitCode::SUCCESS);
+        }
     };
-    if path.as_str() == "--help" {
-        println!(rt; "{USAGE}")?;
-        return Ok(ExitCode::SUCCESS);
-    }
     match run(&rt, path.as_str(), &args[1..]) {
         Ok(()) => return Ok(ExitCode::SUCCESS),
-        Err(Fault::Unreadable(error)) => eprintln!(rt; "pieces: {path}: {error}")?,
-        Err(Fault::Refused(refusal)) => eprintln!(rt; "pieces: {path}: {refusal}")?,
-        Err(Fault::NoPlace) => eprintln!(rt; "pieces: a place is a number from 0 on")?,
+        Err(Fault::NoPlace) => eprintln!(rt; "pieces: {}", Fault::NoPlace)?,
+        Err(fault) => eprintln!(rt; "pieces: {path}: {fault}")?,
     }
     Ok(ExitCode::FAILURE)
 }

@@ -2,7 +2,7 @@
 // this crate's src, was made by tools/expected_samples.py, which reads the headers itself; it uses none of this code.
 #![tactic(auto)]
 
-use dds::{Layout, Piece, head_of};
+use dds::{FileHead, Layout, Piece};
 use formats::BuiltInCodes;
 use listing::{Facts, Row};
 use refusal::Refusal;
@@ -18,11 +18,9 @@ fn read_file(rt: &HostRuntime, name: &str) -> io::Result<Vec<u8>> {
 }
 
 fn sum_of(bytes: &[u8]) -> u64 {
-    let mut sum = 0u64;
-    for byte in bytes {
-        sum = sum.saturating_add(*byte as u64);
-    }
-    sum
+    bytes
+        .iter()
+        .fold(0u64, |sum, byte| sum.saturating_add(u64::from(*byte)))
 }
 
 // A piece's row, and the sum of the bytes that the layout shows for it.
@@ -33,12 +31,10 @@ fn row_and_sum(layout: &Layout, file: &[u8], piece: Piece) -> Result<(Row, u64),
 }
 
 fn print_pieces(rt: &HostRuntime, layout: &Layout, file: &[u8]) -> io::Result<()> {
-    for number in 0..layout.piece_count() {
-        if let Some(piece) = layout.piece_number(number) {
-            match row_and_sum(layout, file, piece) {
-                Ok((row, sum)) => println!(rt; "{row} {sum}")?,
-                Err(refusal) => println!(rt; "{refusal}")?,
-            }
+    for piece in layout.pieces() {
+        match row_and_sum(layout, file, piece) {
+            Ok((row, sum)) => println!(rt; "{row} {sum}")?,
+            Err(refusal) => println!(rt; "{refusal}")?,
         }
     }
     Ok(())
@@ -47,13 +43,12 @@ fn print_pieces(rt: &HostRuntime, layout: &Layout, file: &[u8]) -> io::Result<()
 fn print_sample(rt: &HostRuntime, name: &str) -> io::Result<()> {
     println!(rt; "{name}")?;
     let file = read_file(rt, name)?;
-    let head = head_of(&file);
-    let length = file.len() as u64;
-    match Facts::read(head, length) {
+    let head = FileHead::of(&file);
+    match Facts::read(head) {
         Ok(facts) => println!(rt; "{facts}")?,
         Err(refusal) => println!(rt; "{refusal}")?,
     }
-    match Layout::read(head, length, &BuiltInCodes) {
+    match Layout::read(head, &BuiltInCodes) {
         Ok(layout) => print_pieces(rt, &layout, &file),
         Err(refusal) => println!(rt; "{refusal}"),
     }

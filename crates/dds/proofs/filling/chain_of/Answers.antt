@@ -1,14 +1,13 @@
-use Rattle.std.proofs.Common.{◌≡◌, ℕ, suc, ltb, sym, refl, ap, ◌∙◌, add-one, arith, rules}
-use lib.ListN.{get_or-replicate}
-use Rattle.std.proofs.lemmas.Bool.{cond-false, le-ltb}
+use Rattle.std.proofs.Common.{◌≡◌, ℕ, ◌<◌, replicate, drop, suc, ap, ◌∙◌, add-one, arith}
+use Rattle.std.proofs.lemmas.List.{length-take-le, length-append, length-drop}
 use Rattle.formats.specs.Extents.{extent_of}
 use Rattle.dds.specs.declared.table.Sides.{Sides}
 use Rattle.dds.specs.Levels.{side_at}
 use Rattle.dds.specs.Plans.{size_at, begin_at}
 use Rattle.dds.specs.LevelEnds.{level_end}
 use Rattle.dds.specs.Tables.{InRange, sides_at, level_at, level_with, blank}
-use Rattle.dds.proofs.Begins.{level_is, begin_few, sides_first, sides_step}
-use Rattle.dds.proofs.Written.{one_more}
+use Rattle.dds.proofs.Begins.{level_is, begin_few, sides_step}
+use Rattle.dds.proofs.Written.{one_more, written}
 use Rattle.dds.proofs.filling.chain_of.Goals as goal
 
 -- the level that a turn writes is the level by the rules
@@ -20,31 +19,42 @@ wrote row_bytes rows first sides start k r s b =
     ∙ ap (λ n. level_with (extent_of row_bytes rows (side_at first.width k) (side_at first.height k)) (sides_at first k) n) b
     ∙ level_is row_bytes rows first r k
 
-pub loop-k-init : goal.loop-k-init
-loop-k-init g c = (
-  refl,
-  sides_first c.args.first c.requires.0,
-  refl,
-  λ j h. get_or-replicate 15 j blank blank h ∙ sym (cond-false (ltb j 0) _ _ (le-ltb j 0 (omega arith))),
-)
-
 pub end-begin-requires : goal.end-begin-requires
 end-begin-requires g c =
-    let e = c.level_of-level.ensures
-    ∙ wrote (g.F.Family.row_bytes c.args.family.now) (g.F.Family.rows c.args.family.now) c.args.first c.loop-k.sides c.loop-k.begin c.loop-k.k
-    c.requires.0 c.loop-k.invariant.1 c.loop-k.invariant.2 in
-    let f = begin_few (g.F.Family.row_bytes c.args.family.now) (g.F.Family.rows c.args.family.now) (g.met.F.Family.bounded c.args.family.now) c.args.first c.requires.0 (suc c.loop-k.k) in
+    let e = c.level_of.ensures
+    ∙ wrote (g.F.Family.row_bytes c.args.family.now) (g.F.Family.rows c.args.family.now) c.args.first c.loop-level.sides c.loop-level.begin c.loop-level.level-index
+    c.requires.0 c.loop-level.invariant.0 c.loop-level.invariant.1 in
+    let f = begin_few (g.F.Family.row_bytes c.args.family.now) (g.F.Family.rows c.args.family.now) (g.met.F.Family.bounded c.args.family.now) c.args.first c.requires.0 (suc c.loop-level.level-index) in
     let l = ap level_end e in
+    let long = length-take-le c.args.count (replicate 15 c.default-levels.result) c.requires.1 in
+    let few : c.loop-level.level-index < 15 = omega arith in
     omega arith
 
-pub loop-k-preserved : goal.loop-k-preserved
-loop-k-preserved g c =
-    let e = c.level_of-level.ensures
-    ∙ wrote (g.F.Family.row_bytes c.args.family.now) (g.F.Family.rows c.args.family.now) c.args.first c.loop-k.sides c.loop-k.begin c.loop-k.k
-    c.requires.0 c.loop-k.invariant.1 c.loop-k.invariant.2 in (
-      search rules,
-      c.halved-sides.ensures ∙ sides_step c.args.first c.loop-k.sides c.loop-k.k c.loop-k.invariant.1,
+pub loop-level-preserved : goal.loop-level-preserved
+loop-level-preserved g c =
+    let e = c.level_of.ensures
+    ∙ wrote (g.F.Family.row_bytes c.args.family.now) (g.F.Family.rows c.args.family.now) c.args.first c.loop-level.sides c.loop-level.begin c.loop-level.level-index
+    c.requires.0 c.loop-level.invariant.0 c.loop-level.invariant.1 in (
+      c.halved-sides.ensures ∙ sides_step c.args.first c.loop-level.sides c.loop-level.level-index c.loop-level.invariant.0,
       rw add-one (c.end-begin.ensures ∙ ap level_end e),
       one_more (level_at (g.F.Family.row_bytes c.args.family.now) (g.F.Family.rows c.args.family.now) c.args.first) blank
-          c.level_of-level.result c.loop-k.levels c.loop-k.k (search rules) e c.loop-k.invariant.3,
+          c.level_of.result c.loop-level.level-items c.loop-level.level-index (omega arith) e c.loop-level.invariant.2,
     )
+
+pub returns : goal.returns
+returns g c =
+    let d = c.default-levels.ensures in
+    let long = length-take-le c.args.count (replicate 15 c.default-levels.result) c.requires.1 in
+    let blank_is : c.default-levels.result ≡ blank
+    = λ i. record { width = d.0 i; height = d.1.0 i; slices = d.1.1.0 i; row_bytes = d.1.1.1.0 i; rows = d.1.1.1.1.0 i; begin = d.1.1.1.1.1 i } in
+    record {
+      level = written (level_at (g.F.Family.row_bytes c.args.family.now) (g.F.Family.rows c.args.family.now) c.args.first) blank
+          c.default-levels.result 15 c.args.count c.loop-level.level-items blank_is (omega arith) (λ j h. c.loop-level.invariant.2 j (omega arith));
+      long =
+          length-append c.loop-level.level-items (drop c.args.count (replicate 15 c.default-levels.result))
+          ∙ (let rest = length-drop c.args.count (replicate 15 c.default-levels.result) in omega arith);
+      stride =
+          c.loop-level.invariant.1
+          ∙ ap (begin_at (side_at c.args.first.depth) (size_at (g.F.Family.row_bytes c.args.family.now) (g.F.Family.rows c.args.family.now) c.args.first.width c.args.first.height))
+          (omega arith);
+    }

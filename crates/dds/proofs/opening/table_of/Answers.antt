@@ -15,8 +15,7 @@ chain_of-chain-requires g c =
 
 pub slice_bounds-element_step-end : goal.slice_bounds-element_step-end
 slice_bounds-element_step-end g c =
-    let s = shaped c.args.header.now c.args.shape c.requires in
-    let few = s.few_levels in
+    let few = (shaped c.args.header.now c.args.shape c.requires).few_levels in
     let count = c.levels-level_count.ensures in
     search rules
 

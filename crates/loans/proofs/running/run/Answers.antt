@@ -1,4 +1,4 @@
-use Rattle.std.proofs.Common.{ℕ, List, length, map, Ok, Err, vec_items, refl, subst, arith}
+use Rattle.std.proofs.Common.{ℕ, List, map, Ok, Err, vec_items, refl, subst₂, arith}
 use Rattle.std.proofs.lemmas.List.{length-map}
 use Rattle.std.proofs.lemmas.Result.{err_from_is_err_and}
 use Rattle.dds.specs.Layouts.{Opened}
@@ -10,7 +10,8 @@ pub returns-in_err-layout-clause-ran : goal.returns-in_err-layout-clause-ran
 returns-in_err-layout-clause-ran g c =
     let p = err_from_is_err_and c.from_residual.result c.from_residual.ensures.1 in
     rw (p.1, p.2) (
-      subst (λ (h : List ℕ). Opened h (length c.args.file.now) (g.F.Family.row_bytes c.args.family.now) (g.F.Family.rows c.args.family.now) (Err c.in_err-layout.field-0.0)) c.head_of.ensures c.in_err-layout.ensures,
+      subst₂ (λ (h : List ℕ) (n : ℕ). Opened h n (g.F.Family.row_bytes c.args.family.now) (g.F.Family.rows c.args.family.now) (Err c.in_err-layout.field-0.0))
+          c.of.ensures.head c.of.ensures.length c.in_err-layout.ensures,
       (refl, refl, refl, refl),
     )
 
@@ -18,13 +19,20 @@ pub returns-in_err-reserve-clause-ran : goal.returns-in_err-reserve-clause-ran
 returns-in_err-reserve-clause-ran g c =
     let p = err_from_is_err_and c.from_residual-in_err-reserve.result c.from_residual-in_err-reserve.ensures.1 in
     rw (p.1, p.2) (
-      (c.in_ok-layout.layout, subst (λ (h : List ℕ). Opened h (length c.args.file.now) (g.F.Family.row_bytes c.args.family.now) (g.F.Family.rows c.args.family.now) (Ok c.in_ok-layout.layout)) c.head_of.ensures c.in_ok-layout.ensures),
+      (
+        c.in_ok-layout.layout,
+        subst₂ (λ (h : List ℕ) (n : ℕ). Opened h n (g.F.Family.row_bytes c.args.family.now) (g.F.Family.rows c.args.family.now) (Ok c.in_ok-layout.layout))
+            c.of.ensures.head c.of.ensures.length c.in_ok-layout.ensures,
+      ),
       omega (arith, c.in_err-reserve.ensures.full, length-map c.args.calls.now deed_of),
       (refl, refl, refl, c.in_err-reserve.ensures.items),
     )
 
 pub call_all-requires-clause-along : goal.call_all-requires-clause-along
 call_all-requires-clause-along g c =
+    let opened =
+    subst₂ (λ (h : List ℕ) (n : ℕ). Opened h n (g.F.Family.row_bytes c.args.family.now) (g.F.Family.rows c.args.family.now) (Ok c.in_ok-layout.layout))
+    c.of.ensures.head c.of.ensures.length c.in_ok-layout.ensures in
     opened_along (record {
       file = c.args.file.now;
       number = c.args.number;
@@ -34,11 +42,14 @@ call_all-requires-clause-along g c =
       calls = map deed_of c.args.calls.now;
       old = vec_items c.args.answers.now;
     }) c.fresh-opened.result
-    (made_job _ c.fresh-opened.result c.in_ok-layout.layout c.head_of.result.now c.head_of.ensures c.in_ok-layout.ensures c.fresh-opened.ensures.layout c.fresh-opened.ensures.book)
+    (made_job _ c.fresh-opened.result c.in_ok-layout.layout opened c.fresh-opened.ensures.layout c.fresh-opened.ensures.book)
     c.are_empty.result c.are_empty.ensures
 
 pub returns-clause-ran : goal.returns-clause-ran
 returns-clause-ran g c =
+    let opened =
+    subst₂ (λ (h : List ℕ) (n : ℕ). Opened h n (g.F.Family.row_bytes c.args.family.now) (g.F.Family.rows c.args.family.now) (Ok c.in_ok-layout.layout))
+    c.of.ensures.head c.of.ensures.length c.in_ok-layout.ensures in
     run_made _ c.fresh-opened.result
-    (made_job _ c.fresh-opened.result c.in_ok-layout.layout c.head_of.result.now c.head_of.ensures c.in_ok-layout.ensures c.fresh-opened.ensures.layout c.fresh-opened.ensures.book)
-    c.of.result c.of.ensures.number _ _ _ c.in_ok-reserve.ensures.items c.call_all.ensures
+    (made_job _ c.fresh-opened.result c.in_ok-layout.layout opened c.fresh-opened.ensures.layout c.fresh-opened.ensures.book)
+    c.of-2.result c.of-2.ensures.number _ _ _ c.in_ok-reserve.ensures.items c.call_all.ensures

@@ -1,0 +1,10 @@
+use Rattle.std.proofs.Common.{ap, ◌∙◌, List, sum_by, arith}
+use Rattle.dds.specs.declared.level.Level.{Level}
+use Rattle.dds.proofs.Numbering.{count_sum}
+use Rattle.dds.proofs.layout.Layout.pieces_per_element.Goals as goal
+
+pub returns : goal.returns
+returns c =
+    let s = c.args.self.now in
+    c.slices_of.ensures ∙ ap (λ (xs : List Level). sum_by (λ (l : Level). l.slices) xs) c.levels.ensures.levels
+    ∙ count_sum s.table.levels s.table.level_count (omega arith)

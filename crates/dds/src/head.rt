@@ -1,0 +1,22 @@
+// What is read of a file to open it.
+ghost use Rattle.std.specs.Prelude.{◌≡◌, length, take};
+
+// A file's head, which is its first 148 bytes or the whole of a shorter one, and the file's length.
+#[derive(Clone, Copy)]
+pub struct FileHead<'a> {
+    pub bytes: &'a [u8],
+    pub length: u64,
+}
+
+impl<'a> FileHead<'a> {
+    // Of a file that is at hand whole.
+    pub fn of(file: &'a [u8]) -> FileHead<'a>
+        ensures head { result.bytes.now ≡ take 148 file.now }
+        ensures length { result.length ≡ length file.now }
+    {
+        FileHead {
+            bytes: &file[..file.len().min(148)],
+            length: file.len() as u64,
+        }
+    }
+}
