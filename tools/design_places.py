@@ -3,7 +3,7 @@
 import collections, pathlib, re, sys
 
 TREE = pathlib.Path(sys.argv[1] if len(sys.argv) > 1 else '.')
-SHOWN = sys.argv[2] if len(sys.argv) > 2 else ''
+SHOWN = sys.argv[2] if len(sys.argv) > 2 else ' '
 FILES = sorted(p for p in TREE.glob('crates/*/src/*.rt') if p.name != 'expected.rt')
 TEXT = {p.relative_to(TREE): p.read_text() for p in FILES}
 
@@ -35,7 +35,7 @@ COMMON = {'main', 'fmt', 'from', 'next', 'drop', 'ask', 'range', 'format_of', 't
 
 def show(title, places):
     print(f'{len(places):4}  {title}')
-    if SHOWN and title.startswith(SHOWN):
+    if title[0] == SHOWN:
         for place in places:
             print(f'        {place}')
 

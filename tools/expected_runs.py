@@ -20,6 +20,11 @@ OUT = pathlib.Path(__file__).resolve().parent.parent / 'crates/loans_tests/src/e
 HUGE = 2 ** 64 - 1
 
 
+# The refusals by their numbers, from the tenth on.
+REFUSALS = dict(enumerate(['NoSuchPiece', 'PastFileEnd', 'OtherLength', 'PieceOut', 'TooManyLoans', 'NumbersUsedUp', 'LoanNotOut', 'OtherBorrower',
+                           'ForeignShelves', 'OutsideRow', 'NoSpace', 'NothingToUndo', 'OtherDocket', 'LoansOut'], 10))
+
+
 class Texture:
     """A file: its head, its pieces' names and, of each, place, row bytes and rows, and the bytes of each piece."""
 
@@ -319,11 +324,11 @@ def line_text(call):
 
 
 def row_text(call, done, number):
-    return f"({line_text(call)}, {'Ok' if done else 'Err'}({number}))"
+    return f"({line_text(call)}, {f'Ok({number})' if done else f'Err(Refusal::{REFUSALS[number]})'})"
 
 
 def hand_row(call, answer):
-    return row_text(call, False, answer.split()[1])
+    return row_text(call, False, int(answer.split()[1]))
 
 
 def report_text(granted, kept, cancelled, out):
@@ -389,6 +394,7 @@ use crate::scripts::Stock;
 use crate::scripts::Trial;
 use formats::FormatName;
 use loans::Report;
+use refusal::Refusal;
 """,
     *map(head_text, TEXTURES), *map(script_text, SCRIPTS), script_text(BASE, 'BASE_LINES'),
     table_text("The parts of BASE by themselves, since a function that names a constant is checked with all of it.", 'BASE_LINES', "Row<'static>",

@@ -7,6 +7,7 @@ use crate::expected::{
 use crate::scripts::{Line, Row, Stock, Trial, check_run, check_script};
 use formats::FormatName;
 use loans::{Job, Shelves};
+use refusal::Refusal;
 use shelf::Shelf;
 use std::alloc::AllocGlobal;
 use std::process::Abort;
@@ -14,11 +15,11 @@ use std::test::Fail;
 
 // Calls that need the job's shelves, the last on a loan with no strokes. They come before a full shelf too: five marks fill it.
 const REFUSED: &[Row<'static>] = &[
-    (Line::Paint(1, 7, 0, 0, b"Q"), Err(18)),
-    (Line::Undo(1, 7), Err(18)),
-    (Line::Keep(2), Err(18)),
-    (Line::Cancel(2), Err(18)),
-    (Line::Keep(4), Err(18)),
+    (Line::Paint(1, 7, 0, 0, b"Q"), Err(Refusal::ForeignShelves)),
+    (Line::Undo(1, 7), Err(Refusal::ForeignShelves)),
+    (Line::Keep(2), Err(Refusal::ForeignShelves)),
+    (Line::Cancel(2), Err(Refusal::ForeignShelves)),
+    (Line::Keep(4), Err(Refusal::ForeignShelves)),
 ];
 
 // The job after BASE, and its file.
@@ -39,11 +40,11 @@ pub(crate) fn base_job(rt: &(impl Abort + AllocGlobal)) -> Result<(Job, Vec<u8>)
 // On the shelves that another job left, a new job lends, but no call that needs shelves is carried out.
 const NEXT_JOB: &[Row<'static>] = &[
     (Line::Loan(0, 0, 0, 7), Ok(1)),
-    (Line::Paint(1, 7, 0, 0, b"Q"), Err(18)),
-    (Line::Undo(1, 7), Err(18)),
-    (Line::Keep(1), Err(18)),
-    (Line::Cancel(1), Err(18)),
-    (Line::Cancel(2), Err(16)),
+    (Line::Paint(1, 7, 0, 0, b"Q"), Err(Refusal::ForeignShelves)),
+    (Line::Undo(1, 7), Err(Refusal::ForeignShelves)),
+    (Line::Keep(1), Err(Refusal::ForeignShelves)),
+    (Line::Cancel(1), Err(Refusal::ForeignShelves)),
+    (Line::Cancel(2), Err(Refusal::LoanNotOut)),
 ];
 
 // Calls on a copy of the file, with that on the shelves.
@@ -112,7 +113,11 @@ fn check_trial(
     assert_eq!(rt; answer, Ok(trial.answer), "trial {position}");
     desk.check_state(rt, ARRAY_HEAD, &trial.after)?;
     let next = desk.answer_to(Line::Undo(4, 9));
-    assert_ne!(rt; next, Err(18), "the shelves are the job's still");
+    assert_ne!(rt;
+        next,
+        Err(Refusal::ForeignShelves),
+        "the shelves are the job's still"
+    );
     Ok(())
 }
 

@@ -145,10 +145,9 @@ impl Desk<'_> {
     }
 
     // Makes the call of a line.
-    pub(crate) fn answer_to(&mut self, line: Line<'_>) -> Result<u32, u32> {
+    pub(crate) fn answer_to(&mut self, line: Line<'_>) -> Answer {
         self.job
             .carry_out(&mut self.file, &mut self.shelves, line.into())
-            .map_err(Refusal::number)
     }
 
     // The call is answered as it must be, and where it is refused it changes nothing.

@@ -29,18 +29,14 @@ const ZEROS: Report = Report {
 
 const NOTHING: Stock<'static> = (&[], &[]);
 
-fn number_of<T: Drop>(answer: Result<T, Refusal>) -> u32 {
-    answer.err().map_or(0, Refusal::number)
-}
-
-// The report, or the refusal's number and that of the docket that came back.
-fn shipped(docket: Docket, job: &mut Job) -> Result<Report, (u32, u32)> {
+// The report, or the refusal and the number of the docket that came back.
+fn shipped(docket: Docket, job: &mut Job) -> Result<Report, (Refusal, u32)> {
     match ship(docket, job) {
         Ok(report) => Ok(report),
         Err(Unspent { docket, refusal }) => {
             let number = docket.number();
             spend(docket, &mut Job::empty());
-            Err((refusal.number(), number))
+            Err((refusal, number))
         }
     }
 }
@@ -50,7 +46,7 @@ fn check_unshipped(
     file: &[u8],
     job: &mut Job,
     number: u32,
-    refusal: u32,
+    refusal: Refusal,
 ) -> Result<(), Fail> {
     let before = job.report();
     assert_eq!(rt;
@@ -68,16 +64,16 @@ fn check_ship_by_number(
     shelves: &mut Shelves<'_>,
 ) -> Result<(), Fail> {
     let mut job = opened(file)?;
-    assert_eq!(rt; number_of(job.loan(FIRST, 7)), 0);
-    check_unshipped(rt, file, &mut job, 1, 23)?;
-    check_unshipped(rt, file, &mut job, 0, 22)?;
-    assert_eq!(rt; number_of(job.keep(shelves, 1)), 0);
-    check_unshipped(rt, file, &mut job, 2, 22)?;
+    assert_eq!(rt; job.loan(FIRST, 7).err(), None);
+    check_unshipped(rt, file, &mut job, 1, Refusal::LoansOut)?;
+    check_unshipped(rt, file, &mut job, 0, Refusal::OtherDocket)?;
+    assert_eq!(rt; job.keep(shelves, 1).err(), None);
+    check_unshipped(rt, file, &mut job, 2, Refusal::OtherDocket)?;
     let report = job.report();
     assert_eq!(rt; shipped(docket_of(file, 1)?, &mut job), Ok(report));
-    assert_eq!(rt; number_of(job.where_is(FIRST)), 10);
+    assert_eq!(rt; job.where_is(FIRST).err(), Some(Refusal::NoSuchPiece));
     assert_eq!(rt; job.report(), ZEROS);
-    check_unshipped(rt, file, &mut job, 1, 22)
+    check_unshipped(rt, file, &mut job, 1, Refusal::OtherDocket)
 }
 
 #[test]
@@ -92,7 +88,10 @@ fn ship_by_number(rt: HostRuntime) -> Result<(), Fail> {
 fn ship_with_number_0(rt: HostRuntime) -> Result<(), Fail> {
     let file = file_of(rt.alloc(), TINY_HEAD, TINY_PIECES)?;
     let mut job = Job::empty();
-    assert_eq!(rt; shipped(docket_of(&file, 0)?, &mut job), Err((22, 0)));
+    assert_eq!(rt;
+        shipped(docket_of(&file, 0)?, &mut job),
+        Err((Refusal::OtherDocket, 0))
+    );
     let docket = job.open(&file, 0, &BuiltInCodes)?;
     assert_eq!(rt; shipped(docket, &mut job), Ok(ZEROS));
     Ok(())
@@ -103,13 +102,13 @@ fn check_unscrapped(
     rt: &(impl Abort + AllocGlobal),
     docket: Docket,
     desk: &mut Desk<'_>,
-    refusal: u32,
+    refusal: Refusal,
 ) -> Result<(), Fail> {
     let before = desk.snapshot(rt.alloc());
     let answer = desk.scrap(docket);
     let before = before?;
     assert_eq!(rt; desk.snapshot(rt.alloc())?, before);
-    assert_eq!(rt; number_of(answer), refusal);
+    assert_eq!(rt; answer.err(), Some(refusal));
     Ok(())
 }
 
@@ -119,7 +118,7 @@ fn check_refused_scrap(
     number: u32,
     length: usize,
     stock: Stock<'_>,
-    refusal: u32,
+    refusal: Refusal,
 ) -> Result<(), Fail> {
     let (job, mut file) = base_job(rt)?;
     let mut marks = [NO_MARK; 5];
@@ -133,10 +132,10 @@ fn check_refused_scrap(
 
 #[test]
 fn refused_scraps(rt: HostRuntime) -> Result<(), Fail> {
-    check_refused_scrap(&rt, 2, 327, NOTHING, 22)?;
-    check_refused_scrap(&rt, 1, 327, NOTHING, 12)?;
+    check_refused_scrap(&rt, 2, 327, NOTHING, Refusal::OtherDocket)?;
+    check_refused_scrap(&rt, 1, 327, NOTHING, Refusal::OtherLength)?;
     for stock in FOREIGN {
-        check_refused_scrap(&rt, 1, 328, *stock, 18)?;
+        check_refused_scrap(&rt, 1, 328, *stock, Refusal::ForeignShelves)?;
     }
     Ok(())
 }
@@ -153,7 +152,7 @@ fn check_scrap(
     let shelves = shelves_with(&mut marks, &mut bytes, stock)?;
     let docket = docket_of(&file, 1)?;
     let mut desk = Desk { job, file, shelves };
-    assert_eq!(rt; number_of(desk.scrap(docket)), 0);
+    assert_eq!(rt; desk.scrap(docket).err(), None);
     let after = State {
         pieces,
         marks: &[],
@@ -173,35 +172,35 @@ fn scraps(rt: HostRuntime) -> Result<(), Fail> {
 }
 
 const EMPTY_WITH_BYTES: &[Row<'static>] = &[
-    (Line::Loan(0, 0, 0, 7), Err(10)),
-    (Line::Paint(1, 7, 0, 0, b"A"), Err(12)),
-    (Line::Undo(1, 7), Err(12)),
-    (Line::Keep(1), Err(16)),
-    (Line::Cancel(1), Err(12)),
+    (Line::Loan(0, 0, 0, 7), Err(Refusal::NoSuchPiece)),
+    (Line::Paint(1, 7, 0, 0, b"A"), Err(Refusal::OtherLength)),
+    (Line::Undo(1, 7), Err(Refusal::OtherLength)),
+    (Line::Keep(1), Err(Refusal::LoanNotOut)),
+    (Line::Cancel(1), Err(Refusal::OtherLength)),
 ];
 
 const EMPTY_WITHOUT_BYTES: &[Row<'static>] = &[
-    (Line::Loan(0, 0, 0, 7), Err(10)),
-    (Line::Paint(0, 0, 0, 0, b"A"), Err(16)),
-    (Line::Undo(0, 0), Err(16)),
-    (Line::Keep(0), Err(16)),
-    (Line::Cancel(0), Err(16)),
+    (Line::Loan(0, 0, 0, 7), Err(Refusal::NoSuchPiece)),
+    (Line::Paint(0, 0, 0, 0, b"A"), Err(Refusal::LoanNotOut)),
+    (Line::Undo(0, 0), Err(Refusal::LoanNotOut)),
+    (Line::Keep(0), Err(Refusal::LoanNotOut)),
+    (Line::Cancel(0), Err(Refusal::LoanNotOut)),
 ];
 
 fn check_empty_looks(rt: &impl Abort, job: &Job, file: &[u8]) -> Result<(), Fail> {
     assert_eq!(rt; job.report(), ZEROS);
-    assert_eq!(rt; number_of(job.where_is(FIRST)), 10);
-    assert_eq!(rt; number_of(job.whose(0)), 11);
-    assert_eq!(rt; number_of(job.show(file, FIRST)), 12);
-    assert_eq!(rt; number_of(job.show(&[], FIRST)), 10);
+    assert_eq!(rt; job.where_is(FIRST).err(), Some(Refusal::NoSuchPiece));
+    assert_eq!(rt; job.whose(0).err(), Some(Refusal::PastFileEnd));
+    assert_eq!(rt; job.show(file, FIRST).err(), Some(Refusal::OtherLength));
+    assert_eq!(rt; job.show(&[], FIRST).err(), Some(Refusal::NoSuchPiece));
     Ok(())
 }
 
 fn check_empty_calls(rt: &(impl Abort + AllocGlobal), desk: &mut Desk<'_>) -> Result<(), Fail> {
     desk.check_rows(rt, EMPTY_WITH_BYTES)?;
-    check_unshipped(rt, &desk.file, &mut desk.job, 1, 22)?;
+    check_unshipped(rt, &desk.file, &mut desk.job, 1, Refusal::OtherDocket)?;
     let docket = docket_of(&desk.file, 1)?;
-    check_unscrapped(rt, docket, desk, 22)?;
+    check_unscrapped(rt, docket, desk, Refusal::OtherDocket)?;
     desk.file.clear();
     desk.check_rows(rt, EMPTY_WITHOUT_BYTES)
 }
@@ -229,16 +228,16 @@ fn open_again(rt: HostRuntime) -> Result<(), Fail> {
         }
         Err(refusal) => refusal,
     };
-    assert_eq!(rt; refusal.number(), 9);
+    assert_eq!(rt; refusal, Refusal::WrongEnd);
     assert_eq!(rt; job.report(), before);
-    assert_eq!(rt; number_of(job.loan(FIRST, 9)), 13);
+    assert_eq!(rt; job.loan(FIRST, 9).err(), Some(Refusal::PieceOut));
     let docket = job.open(&file, 2, &BuiltInCodes)?;
     let report = job.report();
     let number = docket.number();
-    let first = number_of(job.loan(FIRST, 9));
+    let first = job.loan(FIRST, 9);
     spend(docket, &mut job);
     assert_eq!(rt; report, ZEROS);
-    assert_eq!(rt; (number, first), (2, 0));
+    assert_eq!(rt; (number, first), (2, Ok(1)));
     Ok(())
 }
 
@@ -260,7 +259,7 @@ fn check_refused_run(
         }
         Err(RunFault::NoMemory) => Err(Fail::new("no memory")),
         Err(RunFault::Refused(refusal)) => {
-            assert_eq!(rt; refusal.number(), 9);
+            assert_eq!(rt; refusal, Refusal::WrongEnd);
             assert_eq!(rt; answers.len(), 1);
             assert_eq!(rt; job.report(), before);
             Ok(())

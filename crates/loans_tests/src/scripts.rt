@@ -21,8 +21,8 @@ pub enum Line<'a> {
     Cancel(u32),
 }
 
-// A call, and its answer: a number, or the number of a refusal.
-pub type Row<'a> = (Line<'a>, Result<u32, u32>);
+// A call, and its answer.
+pub type Row<'a> = (Line<'a>, Answer);
 
 // What stands on the two shelves: of each mark the loan, the place and the length, which in a table of values take one line, where a
 // Mark takes five; and the kept bytes.
@@ -100,8 +100,7 @@ fn calls_of<'a>(heap: Global, rows: &[Row<'a>]) -> Result<Vec<Call<'a>>, Fail> {
 fn check_answers(rt: &impl Abort, rows: &[Row<'_>], answers: &[Answer]) -> Result<(), Fail> {
     assert_eq!(rt; answers.len(), rows.len());
     for (position, (answer, (_, expected))) in answers.iter().zip(rows).enumerate() {
-        let answer = answer.map_err(Refusal::number);
-        assert_eq!(rt; answer, *expected, "position {position}");
+        assert_eq!(rt; *answer, *expected, "position {position}");
     }
     Ok(())
 }

@@ -67,8 +67,8 @@ fn check_loan_and_keep(
     shelves: &mut Shelves<'_>,
     number: u32,
 ) -> Result<(), Fail> {
-    assert_eq!(rt; job.loan(FIRST, 7).map_err(Refusal::number), Ok(number));
-    assert_eq!(rt; job.keep(shelves, number).map_err(Refusal::number), Ok(0));
+    assert_eq!(rt; job.loan(FIRST, 7), Ok(number));
+    assert_eq!(rt; job.keep(shelves, number), Ok(0));
     Ok(())
 }
 
@@ -81,10 +81,10 @@ fn check_all_numbers(
     for number in 1..65535u32 {
         check_loan_and_keep(rt, job, shelves, number)?;
     }
-    assert_eq!(rt; job.loan(FIRST, 7).map_err(Refusal::number), Ok(65535));
-    assert_eq!(rt; job.loan(FIRST, 7).map_err(Refusal::number), Err(13));
-    assert_eq!(rt; job.keep(shelves, 65535).map_err(Refusal::number), Ok(0));
-    assert_eq!(rt; job.loan(FIRST, 7).map_err(Refusal::number), Err(15));
+    assert_eq!(rt; job.loan(FIRST, 7), Ok(65535));
+    assert_eq!(rt; job.loan(FIRST, 7), Err(Refusal::PieceOut));
+    assert_eq!(rt; job.keep(shelves, 65535), Ok(0));
+    assert_eq!(rt; job.loan(FIRST, 7), Err(Refusal::NumbersUsedUp));
     assert_eq!(rt; job.report().granted, 65535);
     Ok(())
 }
