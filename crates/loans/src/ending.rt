@@ -38,7 +38,8 @@ impl Shelves<'_> {
         let _ = self.bytes.slide(begin, length, to.bytes);
     }
 
-    // Takes all marks of a loan and their bytes off the shelves, in one pass that moves what stays at most once.
+    // Takes all marks of a loan and their bytes off the shelves, in one pass that moves what stays at most once. It goes by position,
+    // since an iterator would hold the shelf that each step changes.
     fn drop_loan(&mut self, loan: u32)
         requires { lengths (stock_of self.old).marks ≡ length (stock_of self.old).bytes }
         ensures { stock_of self.new ≡ stock_without (stock_of self.old) loan }
