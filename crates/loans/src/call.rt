@@ -16,7 +16,8 @@ pub struct Painting<'a> {
     pub bytes: &'a [u8],
 }
 
-// A call with its arguments. A paint borrows the bytes that it lays.
+// A call with its arguments. A paint borrows the bytes that it lays. A loan and its borrower stay two numbers, as whoever calls gives
+// them: a struct of both would be made for each call and taken apart at once.
 #[derive(Clone, Copy, PartialEq, Eq, Debug)]
 pub enum Call<'a> {
     Loan { piece: Piece, borrower: u32 },

@@ -29,7 +29,7 @@ pub struct Ledger {
 }
 
 // How many loans were granted, kept and cancelled, and how many are out: granted is the other three together.
-#[derive(Clone, Copy, PartialEq, Eq, Debug)]
+#[derive(Clone, Copy, PartialEq, Eq, Debug, Default)]
 pub struct Report {
     pub granted: u32,
     pub kept: u32,

@@ -4,7 +4,7 @@ ghost use Rattle.std.specs.Prelude.{◌≡◌};
 use shelf::Shelf;
 
 // Of an undoable stroke: its loan, its place in the file, its length. What the file held under it stands on the other shelf.
-#[derive(Clone, Copy, PartialEq, Eq, Debug)]
+#[derive(Clone, Copy, PartialEq, Eq, Debug, Default)]
 pub struct Mark {
     pub loan: u32,
     pub place: usize,

@@ -1,12 +1,12 @@
 // Shelves that were altered, files of another length, and jobs on shelves of another job.
-use crate::desk::{Desk, NO_MARK, file_of, opened, shelves_with};
+use crate::desk::{Desk, file_of, opened, shelves_with};
 use crate::expected::{
     ARRAY_HEAD, ARRAY_PIECES, BASE, BASE_LINES, BASE_STOCK, FIRST_AT_OTHER_LENGTH, FIRST_OF,
     FOREIGN, PASSING,
 };
 use crate::scripts::{Line, Row, Stock, Trial, check_run, check_script};
 use formats::FormatName;
-use loans::{Job, Shelves};
+use loans::{Job, Mark, Shelves};
 use refusal::Refusal;
 use shelf::Shelf;
 use std::alloc::AllocGlobal;
@@ -24,7 +24,7 @@ const REFUSED: &[Row<'static>] = &[
 
 // The job after BASE, and its file.
 pub(crate) fn base_job(rt: &(impl Abort + AllocGlobal)) -> Result<(Job, Vec<u8>), Fail> {
-    let mut marks = [NO_MARK; 5];
+    let mut marks = [Mark::default(); 5];
     let mut bytes = [0u8; 20];
     let file = file_of(rt.alloc(), ARRAY_HEAD, ARRAY_PIECES)?;
     let mut desk = Desk {
@@ -55,7 +55,7 @@ fn check_on_stock(
     stock: Stock<'_>,
     rows: &[Row<'_>],
 ) -> Result<(), Fail> {
-    let mut marks = [NO_MARK; 5];
+    let mut marks = [Mark::default(); 5];
     let mut bytes = [0u8; 20];
     let mut desk = Desk {
         job,
@@ -72,7 +72,7 @@ fn check_run_on_stock(
     stock: Stock<'_>,
     rows: &[Row<'_>],
 ) -> Result<(), Fail> {
-    let mut marks = [NO_MARK; 5];
+    let mut marks = [Mark::default(); 5];
     let mut bytes = [0u8; 20];
     let mut desk = Desk {
         job: Job::empty(),
@@ -102,7 +102,7 @@ fn check_trial(
     trial: &Trial<'_>,
 ) -> Result<(), Fail> {
     let (job, file) = base_job(rt)?;
-    let mut marks = [NO_MARK; 5];
+    let mut marks = [Mark::default(); 5];
     let mut bytes = [0u8; 20];
     let mut desk = Desk {
         job,

@@ -8,12 +8,6 @@ use std::alloc::{AllocGlobal, Global};
 use std::process::Abort;
 use std::test::Fail;
 
-pub(crate) const NO_MARK: Mark = Mark {
-    loan: 0,
-    place: 0,
-    length: 0,
-};
-
 // A file from the parts of its head and from its pieces.
 pub(crate) fn file_of(heap: Global, head: &[&[u8]], pieces: &[&[u8]]) -> Result<Vec<u8>, Fail> {
     let mut file = Vec::new(heap);

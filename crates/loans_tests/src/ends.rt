@@ -1,31 +1,20 @@
 // Opening, shipping and scrapping, and the answers of an empty job.
 use crate::altered::base_job;
-use crate::desk::{Desk, NO_MARK, docket_of, file_of, opened, shelves_with, spend};
+use crate::desk::{Desk, docket_of, file_of, opened, shelves_with, spend};
 use crate::expected::{
     ARRAY_HEAD, BASE_SCRAPPED, BASE_STOCK, FOREIGN, PASSING_SCRAPS, TINY_HEAD, TINY_PIECES,
 };
 use crate::scripts::{Line, Row, State, Stock};
 use dds::Piece;
 use formats::{BuiltInCodes, Format, FormatName};
-use loans::{Answer, Call, Docket, Job, Report, RunFault, Shelves, Unspent, run, scrap, ship};
+use loans::{
+    Answer, Call, Docket, Job, Mark, Report, RunFault, Shelves, Unspent, run, scrap, ship,
+};
 use refusal::Refusal;
 use shelf::Shelf;
 use std::alloc::AllocGlobal;
 use std::process::Abort;
 use std::test::Fail;
-
-const FIRST: Piece = Piece {
-    element: 0,
-    level: 0,
-    slice: 0,
-};
-
-const ZEROS: Report = Report {
-    granted: 0,
-    kept: 0,
-    cancelled: 0,
-    out: 0,
-};
 
 const NOTHING: Stock<'static> = (&[], &[]);
 
@@ -64,15 +53,18 @@ fn check_ship_by_number(
     shelves: &mut Shelves<'_>,
 ) -> Result<(), Fail> {
     let mut job = opened(file)?;
-    assert_eq!(rt; job.loan(FIRST, 7).err(), None);
+    assert_eq!(rt; job.loan(Piece::default(), 7).err(), None);
     check_unshipped(rt, file, &mut job, 1, Refusal::LoansOut)?;
     check_unshipped(rt, file, &mut job, 0, Refusal::OtherDocket)?;
     assert_eq!(rt; job.keep(shelves, 1).err(), None);
     check_unshipped(rt, file, &mut job, 2, Refusal::OtherDocket)?;
     let report = job.report();
     assert_eq!(rt; shipped(docket_of(file, 1)?, &mut job), Ok(report));
-    assert_eq!(rt; job.where_is(FIRST).err(), Some(Refusal::NoSuchPiece));
-    assert_eq!(rt; job.report(), ZEROS);
+    assert_eq!(rt;
+        job.where_is(Piece::default()).err(),
+        Some(Refusal::NoSuchPiece)
+    );
+    assert_eq!(rt; job.report(), Report::default());
     check_unshipped(rt, file, &mut job, 1, Refusal::OtherDocket)
 }
 
@@ -93,7 +85,7 @@ fn ship_with_number_0(rt: HostRuntime) -> Result<(), Fail> {
         Err((Refusal::OtherDocket, 0))
     );
     let docket = job.open(&file, 0, &BuiltInCodes)?;
-    assert_eq!(rt; shipped(docket, &mut job), Ok(ZEROS));
+    assert_eq!(rt; shipped(docket, &mut job), Ok(Report::default()));
     Ok(())
 }
 
@@ -121,7 +113,7 @@ fn check_refused_scrap(
     refusal: Refusal,
 ) -> Result<(), Fail> {
     let (job, mut file) = base_job(rt)?;
-    let mut marks = [NO_MARK; 5];
+    let mut marks = [Mark::default(); 5];
     let mut bytes = [0u8; 20];
     let shelves = shelves_with(&mut marks, &mut bytes, stock)?;
     let docket = docket_of(&file, number)?;
@@ -147,7 +139,7 @@ fn check_scrap(
     pieces: &[&[u8]],
 ) -> Result<(), Fail> {
     let (job, file) = base_job(rt)?;
-    let mut marks = [NO_MARK; 5];
+    let mut marks = [Mark::default(); 5];
     let mut bytes = [0u8; 20];
     let shelves = shelves_with(&mut marks, &mut bytes, stock)?;
     let docket = docket_of(&file, 1)?;
@@ -157,7 +149,7 @@ fn check_scrap(
         pieces,
         marks: &[],
         kept: b"",
-        report: ZEROS,
+        report: Report::default(),
     };
     desk.check_state(rt, ARRAY_HEAD, &after)
 }
@@ -188,11 +180,20 @@ const EMPTY_WITHOUT_BYTES: &[Row<'static>] = &[
 ];
 
 fn check_empty_looks(rt: &impl Abort, job: &Job, file: &[u8]) -> Result<(), Fail> {
-    assert_eq!(rt; job.report(), ZEROS);
-    assert_eq!(rt; job.where_is(FIRST).err(), Some(Refusal::NoSuchPiece));
+    assert_eq!(rt; job.report(), Report::default());
+    assert_eq!(rt;
+        job.where_is(Piece::default()).err(),
+        Some(Refusal::NoSuchPiece)
+    );
     assert_eq!(rt; job.whose(0).err(), Some(Refusal::PastFileEnd));
-    assert_eq!(rt; job.show(file, FIRST).err(), Some(Refusal::OtherLength));
-    assert_eq!(rt; job.show(&[], FIRST).err(), Some(Refusal::NoSuchPiece));
+    assert_eq!(rt;
+        job.show(file, Piece::default()).err(),
+        Some(Refusal::OtherLength)
+    );
+    assert_eq!(rt;
+        job.show(&[], Piece::default()).err(),
+        Some(Refusal::NoSuchPiece)
+    );
     Ok(())
 }
 
@@ -230,13 +231,16 @@ fn open_again(rt: HostRuntime) -> Result<(), Fail> {
     };
     assert_eq!(rt; refusal, Refusal::WrongEnd);
     assert_eq!(rt; job.report(), before);
-    assert_eq!(rt; job.loan(FIRST, 9).err(), Some(Refusal::PieceOut));
+    assert_eq!(rt;
+        job.loan(Piece::default(), 9).err(),
+        Some(Refusal::PieceOut)
+    );
     let docket = job.open(&file, 2, &BuiltInCodes)?;
     let report = job.report();
     let number = docket.number();
-    let first = job.loan(FIRST, 9);
+    let first = job.loan(Piece::default(), 9);
     spend(docket, &mut job);
-    assert_eq!(rt; report, ZEROS);
+    assert_eq!(rt; report, Report::default());
     assert_eq!(rt; (number, first), (2, Ok(1)));
     Ok(())
 }

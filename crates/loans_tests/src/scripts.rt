@@ -1,8 +1,8 @@
 // Scripts: lists of calls with what must come of them.
-use crate::desk::{Desk, NO_MARK, file_of, opened, spend};
+use crate::desk::{Desk, file_of, opened, spend};
 use dds::Piece;
 use formats::{Format, FormatName};
-use loans::{Answer, Call, Job, Painting, Report, Shelves};
+use loans::{Answer, Call, Job, Mark, Painting, Report, Shelves};
 use painters::painter_of;
 use refusal::Refusal;
 use shelf::Shelf;
@@ -215,7 +215,7 @@ fn run_and_scrap(
 }
 
 fn check_whole(rt: &(impl Abort + AllocGlobal), script: &Script<'_>) -> Result<(), Fail> {
-    let mut marks = vec![in rt.alloc(); NO_MARK; script.marks]?;
+    let mut marks = vec![in rt.alloc(); Mark::default(); script.marks]?;
     let mut bytes = vec![in rt.alloc(); 0u8; script.space]?;
     let mut desk = Desk {
         job: Job::empty(),
@@ -227,7 +227,7 @@ fn check_whole(rt: &(impl Abort + AllocGlobal), script: &Script<'_>) -> Result<(
 
 // Call by call, on a job whose docket is spent already.
 fn check_single_calls(rt: &(impl Abort + AllocGlobal), script: &Script<'_>) -> Result<(), Fail> {
-    let mut marks = vec![in rt.alloc(); NO_MARK; script.marks]?;
+    let mut marks = vec![in rt.alloc(); Mark::default(); script.marks]?;
     let mut bytes = vec![in rt.alloc(); 0u8; script.space]?;
     let file = file_of(rt.alloc(), script.head, script.before)?;
     let mut desk = Desk {

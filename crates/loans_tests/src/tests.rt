@@ -55,19 +55,13 @@ fn calls_on_shelves_often_full(rt: HostRuntime) -> Result<(), Fail> {
     check_script(&rt, &NEARLY_FULL)
 }
 
-const FIRST: Piece = Piece {
-    element: 0,
-    level: 0,
-    slice: 0,
-};
-
 fn check_loan_and_keep(
     rt: &impl Abort,
     job: &mut Job,
     shelves: &mut Shelves<'_>,
     number: u32,
 ) -> Result<(), Fail> {
-    assert_eq!(rt; job.loan(FIRST, 7), Ok(number));
+    assert_eq!(rt; job.loan(Piece::default(), 7), Ok(number));
     assert_eq!(rt; job.keep(shelves, number), Ok(0));
     Ok(())
 }
@@ -81,10 +75,10 @@ fn check_all_numbers(
     for number in 1..65535u32 {
         check_loan_and_keep(rt, job, shelves, number)?;
     }
-    assert_eq!(rt; job.loan(FIRST, 7), Ok(65535));
-    assert_eq!(rt; job.loan(FIRST, 7), Err(Refusal::PieceOut));
+    assert_eq!(rt; job.loan(Piece::default(), 7), Ok(65535));
+    assert_eq!(rt; job.loan(Piece::default(), 7), Err(Refusal::PieceOut));
     assert_eq!(rt; job.keep(shelves, 65535), Ok(0));
-    assert_eq!(rt; job.loan(FIRST, 7), Err(Refusal::NumbersUsedUp));
+    assert_eq!(rt; job.loan(Piece::default(), 7), Err(Refusal::NumbersUsedUp));
     assert_eq!(rt; job.report().granted, 65535);
     Ok(())
 }

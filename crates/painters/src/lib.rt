@@ -66,7 +66,7 @@ fn area_for(job: &Job, piece: Option<Piece>) -> Area
         .unwrap_or_default()
 }
 
-// Calls and what they answered, place by place.
+// Calls and what they answered, place by place: two lists, since a run takes the one and gives the other.
 #[derive(Clone, Copy)]
 struct History<'a> {
     calls: &'a [Call<'a>],

@@ -25,12 +25,6 @@ The file's first piece is lent to borrower 1 and its last to borrower 2. Both
 paint; borrower 1 takes a stroke back. Loan 1 is kept, loan 2 is cancelled, and
 the file ships. OUT is written as OUT.part and then renamed.";
 
-const NO_MARK: Mark = Mark {
-    loan: 0,
-    place: 0,
-    length: 0,
-};
-
 // Why a file could not be retouched or written.
 #[derive(Debug, Drop, Error)]
 enum Fault {
@@ -103,7 +97,7 @@ fn write_whole(rt: &HostRuntime, out: &str, bytes: &[u8]) -> io::Result<()> {
 }
 
 fn retouch(rt: &HostRuntime, path: &str, file: &mut [u8], before: &[u8]) -> Result<(), Fault> {
-    let mut marks = [NO_MARK; 16];
+    let mut marks = [Mark::default(); 16];
     let mut bytes = [0u8; 256];
     let mut shelves = Shelves::of(Shelf::new(&mut marks), Shelf::new(&mut bytes));
     let mut job = Job::empty();

@@ -6,12 +6,6 @@ use refusal::Refusal;
 use std::alloc::{AllocError, Global};
 use std::ops::Range;
 
-const FIRST: Piece = Piece {
-    element: 0,
-    level: 0,
-    slice: 0,
-};
-
 // Two pixels of 32 bits, and one.
 const TINT: &[u8] = &[0x20, 0x40, 0xf0, 0x80, 0x20, 0x40, 0xf0, 0x80];
 
@@ -27,10 +21,8 @@ pub(crate) struct Change {
 
 // The piece that has the file's last byte.
 pub(crate) fn last_piece(job: &Job, length: usize) -> Piece {
-    match job.whose((length as u64).saturating_sub(1)) {
-        Ok(Some((piece, _))) => piece,
-        _ => FIRST,
-    }
+    let owner = job.whose((length as u64).saturating_sub(1)).ok().flatten();
+    owner.map(|(piece, _)| piece).unwrap_or_default()
 }
 
 fn loan(piece: Piece, borrower: u32) -> Call<'static> {
@@ -50,10 +42,11 @@ fn stroke(loan: u32, borrower: u32, row: u32, bytes: &[u8]) -> Call<'_> {
 
 // Some are refused: a piece that is out, another's loan, a loan that was handed in.
 pub(crate) fn steps(last: Piece) -> [Call<'static>; 13] {
+    let first = Piece::default();
     [
-        loan(FIRST, 1),
+        loan(first, 1),
         loan(last, 2),
-        loan(FIRST, 2),
+        loan(first, 2),
         stroke(1, 1, 0, TINT),
         stroke(1, 2, 0, SHADE),
         stroke(2, 2, 0, TINT),
