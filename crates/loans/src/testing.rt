@@ -31,7 +31,8 @@ fn sound_position(loans: &[Loan], mark: Mark) -> Option<usize>
     }
 }
 
-// How many marks each loan has, in one pass; none where a mark is not sound or they do not cover so many bytes together.
+// How many marks each loan has, in one pass; none where a mark is not sound or they do not cover so many bytes together. The counts stand
+// in fixed memory beside the loans, which are only read here, by a call that takes no memory of the heap.
 fn tally(loans: &[Loan], marks: &[Mark], covered: usize) -> Option<[u32; 32]>
     requires few { length loans.now ≤ 32 }
     requires distinct { Distinct loans.now }
