@@ -18,7 +18,7 @@ SEARCHES = {
     '1 numbers for refusals or kinds':
         r'Err\(\d+\)|Err\(\(\d+, \d+\)\)|-> (?:u32|Result<u32, u32>) \{|kept: u32, cancelled: u32|(?<=[a-z], )\d\d\)\?;',
     '1 a flag or a zero with a value beside it': r'spent: bool|run\.length == 0',
-    '3 loops that count by hand': r'while [^\n]*\{|\bloop \{|for \w+ in (?:\d+|[a-z_]+)\.\.[^\n]*\{|(?:place|code|number) = \w+\.saturating_add\(1\)',
+    '3 loops that count by hand': r'while [^\n]*\{|\bloop \{|for \w+ in \(?(?:\d+|[a-z_]+)\.\.[^\n]*\{|(?:place|code|number) = \w+\.saturating_add\(1\)',
     '3 loops that search, test or add': r'for [^\n]* in [^\n]*\{\n(?:\s*let [^\n]*\n)?\s*(?:if [^\n]*\{\n\s*(?:return|check)|\w+ = \w+\.saturating_add\()',
     '4 equality, conversion or printing by hand':
         r'fn (?:is_same|answer_of|number_of|refusal_of|name_of|named|name|number_or_refusal|call_of|tuples_of|check_same)\b[^\n]*'

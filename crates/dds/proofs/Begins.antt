@@ -1,5 +1,5 @@
 -- How far the levels of an element can reach.
-use Rattle.std.proofs.Common.{◌≡◌, ℕ, zero, suc, ◌+◌, ◌*◌, ◌/◌, ◌≤◌, max, true, ◌&&◌, sym, ap, ◌∙◌, arith}
+use Rattle.std.proofs.Common.{◌≡◌, ℕ, zero, suc, ◌+◌, ◌*◌, ◌/◌, ◌≤◌, max, true, ◌&&◌, ap, ◌∙◌, arith}
 use Rattle.std.proofs.lemmas.Nat.{mul-le}
 use Rattle.std.proofs.lemmas.Bool.{cond-true}
 use Rattle.std.proofs.lemmas.Bool.Decides.{nat_tests}
@@ -9,7 +9,7 @@ use Rattle.dds.specs.declared.table.Sides.{Sides}
 use Rattle.dds.specs.Levels.{side_at}
 use Rattle.dds.specs.Plans.{size_at, begin_at}
 use Rattle.dds.specs.Tables.{InRange, sides_at, level_at, level_with}
-use Rattle.dds.proofs.Halving.{side_some, side_few, side_first, side_step}
+use Rattle.dds.proofs.Halving.{side_some, side_few, side_step}
 
 -- a family's law, for all sides in range
 abbrev pub Lawful : (ℕ → ℕ → ℕ) → (ℕ → ℕ → ℕ) → Type 0
@@ -58,13 +58,6 @@ level_is row_bytes rows s r k =
     let fh = r.few_height in
     let i : (is_side (side_at s.width k) && is_side (side_at s.height k)) ≡ true = grind (arith, nat_tests) in
     ap (λ (x : Extent). level_with x (sides_at s k) (begin_at (side_at s.depth) (size_at row_bytes rows s.width s.height) k)) (cond-true _ _ _ i)
-
-pub sides_first : (s : Sides) → InRange s → s ≡ sides_at s 0
-sides_first s r =
-    let w = side_first s.width r.some_width in
-    let h = side_first s.height r.some_height in
-    let d = side_first s.depth r.some_depth in
-    λ i. record { width = sym w i; height = sym h i; depth = sym d i }
 
 pub sides_step : (first s : Sides) (k : ℕ) → s ≡ sides_at first k
     → record { width = max (s.width / 2) 1; height = max (s.height / 2) 1; depth = max (s.depth / 2) 1 } ≡ sides_at first (k + 1)

@@ -17,9 +17,6 @@ side_some side k = omega arith
 pub side_few : (side k : ℕ) → 1 ≤ side → side_at side k ≤ side
 side_few side k h = omega (arith, shr_le side k)
 
-pub side_first : (side : ℕ) → 1 ≤ side → side_at side 0 ≡ side
-side_first side h = omega arith
-
 at_count : {side m n : ℕ} → m ≡ n → ChainOf side m → ChainOf side n
 at_count {side} e = subst (ChainOf side) e
 

@@ -9,7 +9,7 @@ pub struct FileHead<'a> {
 }
 
 impl<'a> FileHead<'a> {
-    // Of a file that is at hand whole.
+    // The head of a file that is all in memory.
     pub fn of(file: &'a [u8]) -> FileHead<'a>
         ensures head { result.bytes.now ≡ take 148 file.now }
         ensures length { result.length ≡ length file.now }

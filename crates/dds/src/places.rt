@@ -19,7 +19,7 @@ pub struct Spot {
 }
 
 impl Layout {
-    // The level that has the byte at an offset in its element: the last that does not begin behind it.
+    // The level that has the byte at an offset in its element: the last that begins there or before.
     fn level_holding(&self, offset: u64) -> usize
         ensures within { result < self.now.table.level_count }
         ensures begun { (get_or self.now.table.levels result blank).begin ≤ offset }

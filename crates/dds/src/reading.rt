@@ -96,7 +96,7 @@ impl Header {
         ensures { result ≡ header_read head.entry.bytes.now head.entry.length }
     {
         let FileHead { bytes, length } = head;
-        if length < SHORTEST || length > LONGEST {
+        if !(SHORTEST..=LONGEST).contains(&length) {
             return Err(Refusal::WrongLength);
         }
         let rest = after_magic(bytes).ok_or(Refusal::WrongMagic)?;

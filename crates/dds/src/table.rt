@@ -12,14 +12,16 @@ pub struct Sides {
 // The levels of an element, and its bytes, which are those of all its levels.
 #[derive(Clone, Copy)]
 pub struct Chain {
+    // as those of a table
     pub levels: [Level; 15],
     pub stride: u64,
 }
 
 // Where all pieces of a file stand. The first `level_count` entries of `levels` are the levels of every element; the others
-// are blank. It is an array with a count, since a layout takes no memory of the heap and is copied, which an ArrayVec is not. An element's bytes are `stride`; pixel data run from `pixel_begin` to `pixel_end`; the file has `length` bytes.
+// are blank. An element's bytes are `stride`; pixel data run from `pixel_begin` to `pixel_end`; the file has `length` bytes.
 #[derive(Clone, Copy)]
 pub struct Table {
+    // an array with a count beside it: a layout takes no memory of the heap and is copied, which an ArrayVec is not
     pub levels: [Level; 15],
     pub level_count: u32,
     pub elements: u32,

@@ -68,8 +68,13 @@ fn check_spot(rt: &impl Abort, layout: &Layout, spot: &Spot) -> Result<(), Fail>
         rows: spot.rows,
     };
     assert_eq!(rt; layout.place_of(spot.piece), Ok(area));
-    let row = Row::of(layout, spot.piece)?;
-    assert_eq!(rt; (row.width, row.height), (spot.width, spot.height));
+    let row = Row {
+        piece: spot.piece,
+        width: spot.width,
+        height: spot.height,
+        area,
+    };
+    assert_eq!(rt; Row::of(layout, spot.piece), Ok(row));
     Ok(())
 }
 

@@ -13,7 +13,8 @@ pub struct Linear {
 #[derive(Clone, Copy)]
 pub struct Paired;
 
-// Blocks of four by four pixels, each of the same number of bytes.
+// Blocks of four by four pixels, each of the same number of bytes. Other sizes are allowed than of linear pixels, and rows are laid out
+// otherwise, so a kind generic over both rules would say no less.
 #[derive(Clone, Copy)]
 pub struct Block {
     bytes: u32,

@@ -7,7 +7,7 @@ use formats::{BuiltInCodes, FormatName};
 use refusal::Refusal;
 
 // The format, the shape, the sides of the first level and the number of levels.
-#[derive(Clone, Copy)]
+#[derive(Clone, Copy, PartialEq, Eq, Debug)]
 pub struct Facts {
     pub format: FormatName,
     pub shape: Shape,

@@ -5,7 +5,7 @@ use dds::{Area, Layout, Piece};
 use refusal::Refusal;
 
 // A line of the list of pieces: the piece, the sides of its level, and where it stands.
-#[derive(Clone, Copy)]
+#[derive(Clone, Copy, PartialEq, Eq, Debug)]
 pub struct Row {
     pub piece: Piece,
     pub width: u32,

@@ -17,7 +17,7 @@ use Rattle.loans.specs.Ending.{keep_refusal, kept_book, cancel_refusal, cancelle
 use Rattle.loans.specs.Rules.{Deed, refusal_of, carried_out, left, after}
 use Rattle.loans.specs.Rules.Deed.{lend, paint, undo, keep, cancel}
 use Rattle.loans.specs.Calls.{Called}
-use Rattle.loans.specs.Handed.{Step, state_with, later_book, names, TurnedDown, HandedIn, HandedWhere}
+use Rattle.loans.specs.Handed.{Step, state_with, later_book, names, TurnedDown, HandedIn, HandedWhere, HandedBy}
 use Rattle.loans.proofs.Counting.{out_count, out_at}
 use Rattle.loans.proofs.Passing.{passed}
 use Rattle.loans.proofs.Listed.{some_of_map, some_of_push, some_of_none, none_less_all, first_among, all_among}
@@ -154,3 +154,12 @@ pub cancelled_called : (n : ℕ) (j : Job) (f : List ℕ) (v : Shelves) (r : Res
     → Called (cancel n) j f v r j' f' v' → HandedWhere n r (book_of j')
 cancelled_called n j f v (Ok x) j' f' v' c = cancelled_job j f (stock_of v) n (book_of j') c.none (ap (λ (s : State). s.book) c.state)
 cancelled_called n j f v (Err e) j' f' v' c = tt
+
+-- the same of any call
+pub called_handed : (d : Deed) (j : Job) (f : List ℕ) (v : Shelves) (r : Result ℕ Refusal) (j' : Job) (f' : List ℕ) (v' : Shelves)
+    → Called d j f v r j' f' v' → HandedBy d r (book_of j')
+called_handed (lend p who) j f v r j' f' v' c = tt
+called_handed (paint p) j f v r j' f' v' c = tt
+called_handed (undo n who) j f v r j' f' v' c = tt
+called_handed (keep n) j f v r j' f' v' c = kept_called n j f v r j' f' v' c
+called_handed (cancel n) j f v r j' f' v' c = cancelled_called n j f v r j' f' v' c

@@ -1,7 +1,8 @@
 -- Finding the newest mark of a loan from the end, and what is left without it.
-use Rattle.std.proofs.Common.{◌≡◌, ℕ, suc, ◌+◌, ◌-◌, ◌<◌, ◌≤◌, Bool, true, false, cond, not, ◌&&◌, ◌≢◌, List, [], ◌∷◌, ◌++◌, length, get_or, take, drop, sym, refl, ap, ◌∙◌, ap₂, append_assoc, arith, take_all, drop-drop, take-add}
-use lib.Seq.{paste, drop-length, split_at}
-use Rattle.std.proofs.lemmas.List.{take_more, at_drop_more}
+use Rattle.std.proofs.Common.{◌≡◌, ℕ, suc, ◌+◌, ◌-◌, ◌<◌, ◌≤◌, Bool, true, false, cond, not, ◌&&◌, ◌≢◌, List, [], ◌∷◌, ◌++◌, length, get_or, take, drop, sym, refl, ap, ◌∙◌, ap₂, append_assoc, arith, drop-drop, take-add, length-append}
+use lib.Seq.{paste, split_at}
+use Rattle.std.proofs.Math.Seq.{take-append_seam, get_or-append_seam}
+use Rattle.std.proofs.lemmas.List.{take_more, at_drop_more, take-take, get_or-take}
 use Rattle.std.proofs.lemmas.Bool.{cond-true, cond-false, eq-eqb, ne_eqb, and_right, false≢true}
 use Rattle.shelf.specs.Calls.{without_run}
 use Rattle.loans.specs.declared.mark.Mark.{Mark}
@@ -13,6 +14,28 @@ use Rattle.loans.specs.Taking.{no_mark, NewestAt, stock_less}
 pub lengths_append : (ms ns : List Mark) → lengths (ms ++ ns) ≡ lengths ms + lengths ns
 lengths_append [] ns = omega arith
 lengths_append (m ∷ ms) ns = omega (arith, lengths_append ms ns)
+
+-- of the marks up to a position, the last, and those before it
+pub record Stepped (ms xs ys : List Mark) (m : Mark) : Type 0 where
+  pub front : ys ≡ take (length ys) ms
+  pub less : length xs - 1 ≡ length ys
+  pub some : 0 < length xs
+  pub last : get_or ms (length xs - 1) no_mark ≡ m
+
+pub stepped : (ms xs ys : List Mark) (m : Mark) → xs ≡ take (length xs) ms → xs ≡ ys ++ m ∷ [] → Stepped ms xs ys m
+stepped ms xs ys m front is =
+    let long : length xs ≡ length ys + 1 = ap length is ∙ length-append ys (m ∷ []) in
+    let less : length xs - 1 ≡ length ys = omega arith in
+    record {
+      front =
+          sym (take-append_seam ys (m ∷ [])) ∙ ap (take (length ys)) (sym is) ∙ ap (take (length ys)) front
+          ∙ take-take (length ys) (length xs) ms (omega arith);
+      less = less;
+      some = omega arith;
+      last =
+          ap (λ i. get_or ms i no_mark) less ∙ sym (get_or-take (length xs) ms (length ys) no_mark (omega arith))
+          ∙ ap (λ zs. get_or zs (length ys) no_mark) (sym front ∙ is) ∙ get_or-append_seam ys m [] no_mark;
+    }
 
 pub marks_none : (n : ℕ) (ms : List Mark) → some_of (of_loan n) ms ≡ false → marks_of n ms ≡ 0
 marks_none n [] h = refl
@@ -28,13 +51,6 @@ pub record Unfound (ms : List Mark) (n k begin' : ℕ) : Type 0 where
   pub within : k ≤ length ms
   pub none : some_of (of_loan n) (drop k ms) ≡ false
   pub begin : begin' ≡ lengths (take k ms)
-
-pub unfound_all : (ms : List Mark) (n : ℕ) → Unfound ms n (length ms) (lengths ms)
-unfound_all ms n = record {
-  within = omega arith;
-  none = ap (some_of (of_loan n)) (drop-length ms);
-  begin = ap lengths (sym (take_all (length ms) ms (omega arith)));
-}
 
 module _ {ms : List Mark} {n k begin : ℕ} (u : Unfound ms n k begin) (some : 0 < k) where
   -- the mark before the position

@@ -1,6 +1,6 @@
 -- Putting back all that a loan's strokes covered, the newest first.
-use Rattle.std.proofs.Common.{◌≡◌, ℕ, ◌+◌, ◌-◌, ◌<◌, ◌≤◌, cond, ◌≢◌, List, [], ◌∷◌, length, get_or, take, drop, sym, refl, ap, ◌∙◌, ap₂, arith, length-drop, take-append-drop, length-take-le, take_all, drop-drop}
-use lib.Seq.{paste, drop-length}
+use Rattle.std.proofs.Common.{◌≡◌, ℕ, ◌+◌, ◌-◌, ◌<◌, ◌≤◌, cond, ◌≢◌, List, [], ◌∷◌, length, get_or, take, drop, sym, ap, ◌∙◌, ap₂, arith, length-drop, take-append-drop, length-take-le, drop-drop, subst₂}
+use lib.Seq.{paste}
 use Rattle.std.proofs.lemmas.List.Edits.{length-paste}
 use Rattle.std.proofs.lemmas.List.{take_more, at_drop_more}
 use Rattle.std.proofs.lemmas.Bool.{cond-true, cond-false, eq-eqb, ne_eqb}
@@ -8,7 +8,7 @@ use Rattle.loans.specs.declared.mark.Mark.{Mark}
 use Rattle.loans.specs.Stocks.{of_loan, lengths}
 use Rattle.loans.specs.Taking.{no_mark}
 use Rattle.loans.specs.Ending.{restored, InFile}
-use Rattle.loans.proofs.Newest.{lengths_append}
+use Rattle.loans.proofs.Newest.{lengths_append, Stepped}
 
 -- from a position on all is put back
 pub record Back (ms : List Mark) (ks f₀ f : List ℕ) (n k end' : ℕ) : Type 0 where
@@ -16,14 +16,6 @@ pub record Back (ms : List Mark) (ks f₀ f : List ℕ) (n k end' : ℕ) : Type 
   pub end : end' ≡ lengths (take k ms)
   pub file : f ≡ restored n f₀ (drop k ms) (drop end' ks)
   pub sized : length f ≡ length f₀
-
-pub back_none : (ms : List Mark) (ks f : List ℕ) (n : ℕ) → lengths ms ≡ length ks → Back ms ks f f n (length ms) (length ks)
-back_none ms ks f n covered = record {
-  within = omega arith;
-  end = sym (ap lengths (take_all (length ms) ms (omega arith)) ∙ covered);
-  file = ap (λ xs. restored n f xs (drop (length ks) ks)) (sym (drop-length ms));
-  sized = refl;
-}
 
 module _ {ms : List Mark} {ks f₀ f : List ℕ} {n k end : ℕ} (b : Back ms ks f₀ f n k end) (some : 0 < k) (covered : lengths ms ≡ length ks) where
   abbrev last : ℕ
@@ -87,3 +79,16 @@ module _ {ms : List Mark} {ks f₀ f : List ℕ} {n k end : ℕ} (b : Back ms ks
         file = now ∙ sym (step ∙ cond-true _ _ _ (eq-eqb n m.loan (sym e)));
         sized = ap length laid ∙ length-paste f m.place part (length part) (omega (arith, inside last back_inside, len, b.sized)) (omega arith) ∙ b.sized;
       }
+
+-- the steps of `back_other` and `back_one`, by the last mark and the marks before it
+module _ {ms xs ys : List Mark} {ks f₀ f : List ℕ} {n end : ℕ} {m : Mark} (s : Stepped ms xs ys m) (b : Back ms ks f₀ f n (length xs) end)
+    (covered : lengths ms ≡ length ks) where
+  pub past_other : m.loan ≢ n → Back ms ks f₀ f n (length ys) (end - m.length)
+  past_other =
+      subst₂ (λ (x : Mark) (k : ℕ). x.loan ≢ n → Back ms ks f₀ f n k (end - x.length)) s.last s.less (back_other b s.some covered)
+
+  pub past_one : m.loan ≡ n → InFile (length f₀) ms → (f' part : List ℕ) → part ≡ take (end - (end - m.length)) (drop (end - m.length) ks)
+      → f' ≡ paste f m.place part (length part) → Back ms ks f₀ f' n (length ys) (end - m.length)
+  past_one =
+      subst₂ (λ (x : Mark) (k : ℕ). x.loan ≡ n → InFile (length f₀) ms → (f' part : List ℕ) → part ≡ take (end - (end - x.length)) (drop (end - x.length) ks)
+      → f' ≡ paste f x.place part (length part) → Back ms ks f₀ f' n k (end - x.length)) s.last s.less (back_one b s.some covered)

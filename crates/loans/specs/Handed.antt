@@ -45,3 +45,11 @@ HandedIn n b = (xs : List Step) (f : List ℕ) (k : Stock) (d : Deed) → names 
 abbrev pub HandedWhere : ℕ → Result ℕ Refusal → Book → Type 0
 HandedWhere n (Ok k) b = HandedIn n b
 HandedWhere n (Err e) b = Unit {0}
+
+-- the same of any call: a keep or cancel that was carried out hands its loan in
+abbrev pub HandedBy : Deed → Result ℕ Refusal → Book → Type 0
+HandedBy (lend p who) r b = Unit {0}
+HandedBy (paint p) r b = Unit {0}
+HandedBy (undo n who) r b = Unit {0}
+HandedBy (keep n) r b = HandedWhere n r b
+HandedBy (cancel n) r b = HandedWhere n r b

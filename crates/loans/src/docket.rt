@@ -6,7 +6,8 @@ ghost use Rattle.std.specs.Prelude.{◌≡◌, true, false};
 #[derive(PartialEq, Eq, Debug)]
 pub struct Docket {
     number: u32,
-    // a flag: a drop that no call can meet would be refused itself, so that no fact could refuse a program that lets a docket go
+    // a flag: a drop that no call can meet would be refused itself, so that no fact could refuse a program that lets a docket go; and no
+    // Option of the number, which is told without fail
     spent: bool,
 }
 

@@ -67,8 +67,7 @@ fn restore(file: &mut [u8], marks: &[Mark], covered: &[u8], loan: u32)
     ensures { file.new ≡ restored loan file.old marks.now covered.now }
 {
     let mut end = covered.len();
-    for position in (0..marks.len()).rev() {
-        let mark = marks[position];
+    for mark in marks.iter().rev() {
         let begin = end - mark.length;
         if mark.loan == loan {
             lay(file, mark.place, &covered[begin..end]);

@@ -6,6 +6,7 @@ ghost use Rattle.loans.specs.Stocks.{stock_of, OursWhere};
 ghost use Rattle.loans.specs.Strokes.{state_of};
 ghost use Rattle.loans.specs.Rules.{deed_of};
 ghost use Rattle.loans.specs.Calls.{Called};
+ghost use Rattle.loans.specs.Handed.{HandedBy};
 ghost use Rattle.loans.specs.Runs.{AllDone, fault_text, OursAlong, is_empty, Ran};
 
 use crate::call::{Answer, Call};
@@ -56,7 +57,8 @@ impl From<AllocError> for RunFault {
 }
 
 impl Job {
-    // Makes one call; shelves that are known to be the job's are not looked through.
+    // Makes one call; shelves that are known to be the job's are not looked through. That is a flag and no closure, which would be called
+    // or not by the same flag.
     fn call(
         &mut self,
         file: &mut [u8],
@@ -83,7 +85,8 @@ impl Job {
         shelves: &mut Shelves<'_>,
         call: Call<'_>,
     ) -> Result<u32, Refusal>
-        ensures { Called (deed_of call.entry) self.old file.old shelves.old result self.new file.new shelves.new }
+        ensures rule { Called (deed_of call.entry) self.old file.old shelves.old result self.new file.new shelves.new }
+        ensures handed { HandedBy (deed_of call.entry) result (book_of self.new) }
     {
         self.call(file, shelves, call, false)
     }

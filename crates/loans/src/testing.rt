@@ -24,11 +24,7 @@ fn sound_position(loans: &[Loan], mark: Mark) -> Option<usize>
     ensures { SoundAt loans.now mark result }
 {
     let position = position_of(loans, mark.loan)?;
-    if mark.length >= 1 && lies_in(loans[position].area, mark) {
-        Some(position)
-    } else {
-        None
-    }
+    (mark.length >= 1 && lies_in(loans[position].area, mark)).then_some(position)
 }
 
 // How many marks each loan has, in one pass; none where a mark is not sound or they do not cover so many bytes together. The counts stand
@@ -73,6 +69,7 @@ impl Job {
         if marks.len() != self.ledger.marks || covered != self.ledger.bytes {
             return false;
         }
+        // tried as is_some_and: the check does not learn from the closure that its answer is that of all the marks
         match tally(self.outs(), marks, covered) {
             Some(counts) => do_agree(self.outs(), &counts),
             None => false,

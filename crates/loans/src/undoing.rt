@@ -32,8 +32,7 @@ fn newest_of(marks: &[Mark], covered: usize, loan: u32) -> Option<Newest>
     ensures { FoundNewest marks.now loan result }
 {
     let mut begin = covered;
-    for position in (0..marks.len()).rev() {
-        let mark = marks[position];
+    for (position, mark) in marks.iter().enumerate().rev() {
         begin -= mark.length;
         if mark.loan == loan {
             return Some(Newest { position, begin });

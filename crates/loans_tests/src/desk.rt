@@ -138,10 +138,16 @@ impl Desk<'_> {
         scrap(docket, &mut self.job, &mut self.file, &mut self.shelves)
     }
 
-    // Makes the call of a line.
+    // Makes the call of a line by the job's own method for it; `run` makes it as a value.
     pub(crate) fn answer_to(&mut self, line: Line<'_>) -> Answer {
-        self.job
-            .carry_out(&mut self.file, &mut self.shelves, line.into())
+        let Desk { job, file, shelves } = self;
+        match line.into() {
+            Call::Loan { piece, borrower } => job.loan(piece, borrower),
+            Call::Paint(painting) => job.paint(file, shelves, painting),
+            Call::Undo { loan, borrower } => job.undo(file, shelves, loan, borrower),
+            Call::Keep { loan } => job.keep(shelves, loan),
+            Call::Cancel { loan } => job.cancel(file, shelves, loan),
+        }
     }
 
     // The call is answered as it must be, and where it is refused it changes nothing.

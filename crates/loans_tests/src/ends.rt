@@ -18,7 +18,7 @@ use std::test::Fail;
 
 const NOTHING: Stock<'static> = (&[], &[]);
 
-// The report, or the refusal and the number of the docket that came back.
+// The report, or the refusal and the number of the docket that came back, which is spent.
 fn shipped(docket: Docket, job: &mut Job) -> Result<Report, (Refusal, u32)> {
     match ship(docket, job) {
         Ok(report) => Ok(report),

@@ -120,7 +120,7 @@ pub(crate) fn check_run(
     check_answers(rt, rows, &answers)
 }
 
-// Calls that were made on a job, and how they were answered.
+// Calls that were made on a job, and how they were answered: two lists, as a run takes the one and gives the other.
 #[derive(Clone, Copy)]
 struct Made<'a> {
     job: &'a Job,

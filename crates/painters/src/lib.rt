@@ -81,8 +81,8 @@ impl History<'_> {
         self.calls.len().min(self.answers.len())
     }
 
-    // What a loan owes before the calls from a position on; none where its strokes are all taken back. A loop and no `try_fold`, whose
-    // closure would not know that what is owed is less than the calls that were read, and so can be counted.
+    // What a loan owes before the calls from a position on; none where its strokes are all taken back. The loop goes by position, since
+    // what is owed is counted, and is less than the calls that lie behind; the closure of a `try_fold` would not know that.
     fn owed_from(&self, from: usize, loan: u32) -> Option<usize>
         ensures { result ≡ owed loan (drop from self.now.calls.now) (drop from self.now.answers.now) }
     {

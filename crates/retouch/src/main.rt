@@ -5,7 +5,7 @@
 mod session;
 mod text;
 
-use crate::session::{Change, changes, finish, last_piece, steps, trace};
+use crate::session::{Change, Desk, changes, last_piece, steps, trace};
 use crate::text::{AnswerText, CallText};
 use formats::BuiltInCodes;
 use loans::{Answer, Call, Job, Mark, Shelves};
@@ -38,16 +38,10 @@ enum Fault {
 }
 
 // Makes the calls, and tells each with its answer.
-fn work(
-    rt: &HostRuntime,
-    calls: &[Call<'_>],
-    job: &mut Job,
-    file: &mut [u8],
-    shelves: &mut Shelves<'_>,
-) -> io::Result<Vec<Answer>> {
+fn work(rt: &HostRuntime, calls: &[Call<'_>], desk: &mut Desk<'_>) -> io::Result<Vec<Answer>> {
     let mut answers = Vec::new(rt.alloc());
     for call in calls {
-        let answer = job.carry_out(file, shelves, *call);
+        let answer = desk.carry_out(*call);
         answers.push(answer)?;
         let words = CallText(*call);
         let answer = AnswerText(*call, answer);
@@ -70,16 +64,14 @@ fn work_and_tell(
     rt: &HostRuntime,
     path: &str,
     before: &[u8],
-    job: &mut Job,
-    file: &mut [u8],
-    shelves: &mut Shelves<'_>,
+    desk: &mut Desk<'_>,
 ) -> io::Result<()> {
-    let length = file.len();
+    let length = desk.file.len();
     println!(rt; "open {path}: {length} bytes")?;
-    let calls = steps(last_piece(job, length));
-    let answers = work(rt, &calls, job, file, shelves)?;
-    let mut changes = changes(rt.alloc(), before, file)?;
-    trace(&mut changes, job, &calls, &answers);
+    let calls = steps(last_piece(&desk.job, length));
+    let answers = work(rt, &calls, desk)?;
+    let mut changes = changes(rt.alloc(), before, desk.file)?;
+    trace(&mut changes, &desk.job, &calls, &answers);
     tell_changes(rt, &changes)
 }
 
@@ -99,11 +91,12 @@ fn write_whole(rt: &HostRuntime, out: &str, bytes: &[u8]) -> io::Result<()> {
 fn retouch(rt: &HostRuntime, path: &str, file: &mut [u8], before: &[u8]) -> Result<(), Fault> {
     let mut marks = [Mark::default(); 16];
     let mut bytes = [0u8; 256];
-    let mut shelves = Shelves::of(Shelf::new(&mut marks), Shelf::new(&mut bytes));
+    let shelves = Shelves::of(Shelf::new(&mut marks), Shelf::new(&mut bytes));
     let mut job = Job::empty();
     let docket = job.open(file, 1, &BuiltInCodes)?;
-    let told = work_and_tell(rt, path, before, &mut job, file, &mut shelves);
-    let ended = finish(docket, &mut job, file, &mut shelves);
+    let mut desk = Desk { job, file, shelves };
+    let told = work_and_tell(rt, path, before, &mut desk);
+    let ended = desk.finish(docket);
     told?;
     let report = ended?;
     let granted = report.granted;
@@ -135,14 +128,13 @@ fn run(rt: &HostRuntime, path: &str, out: Option<&String>) -> Result<(), Fault> 
 // What fails is told once; the status says that it did.
 fn main(rt: HostRuntime) -> io::Result<ExitCode> {
     let args: Vec<String> = env::args(&rt)?.skip(1).collect(rt.alloc())?;
-    let Some(path) = args.first() else {
-        println!(rt; "{USAGE}")?;
-        return Ok(ExitCode::SUCCESS);
+    let path = match args.first() {
+        Some(path) if path.as_str() != "--help" => path,
+        _ => {
+            println!(rt; "{USAGE}")?;
+            return Ok(ExitCode::SUCCESS);
+        }
     };
-    if path.as_str() == "--help" {
-        println!(rt; "{USAGE}")?;
-        return Ok(ExitCode::SUCCESS);
-    }
     if args.len() > 2 {
         eprintln!(rt; "{USAGE}")?;
         return Ok(ExitCode::FAILURE);

@@ -87,7 +87,7 @@ pub(crate) fn changes(
     Ok(changes)
 }
 
-// Asks whose the changed bytes are, and who painted them.
+// Asks whose the changed bytes are, and who painted them; calls and answers are two lists, as they were made.
 pub(crate) fn trace(changes: &mut [Change], job: &Job, calls: &[Call<'_>], answers: &[Answer]) {
     for change in changes {
         let place = change.places.start as u64;
@@ -96,18 +96,27 @@ pub(crate) fn trace(changes: &mut [Change], job: &Job, calls: &[Call<'_>], answe
     }
 }
 
-// Ships, and scraps where that is refused, since the docket must be spent.
-pub(crate) fn finish(
-    docket: Docket,
-    job: &mut Job,
-    file: &mut [u8],
-    shelves: &mut Shelves<'_>,
-) -> Result<Report, Refusal> {
-    match ship(docket, job) {
-        Ok(report) => Ok(report),
-        Err(Unspent { docket, refusal }) => {
-            let _ = scrap(docket, job, file, shelves);
-            Err(refusal)
+// What the calls are made on: the job, its file, and its two shelves.
+#[derive(Drop)]
+pub(crate) struct Desk<'a> {
+    pub(crate) job: Job,
+    pub(crate) file: &'a mut [u8],
+    pub(crate) shelves: Shelves<'a>,
+}
+
+impl Desk<'_> {
+    pub(crate) fn carry_out(&mut self, call: Call<'_>) -> Answer {
+        self.job.carry_out(self.file, &mut self.shelves, call)
+    }
+
+    // Ships, and scraps where that is refused: a match and no map_err, since the docket that comes back must be spent.
+    pub(crate) fn finish(&mut self, docket: Docket) -> Result<Report, Refusal> {
+        match ship(docket, &mut self.job) {
+            Ok(report) => Ok(report),
+            Err(Unspent { docket, refusal }) => {
+                let _ = scrap(docket, &mut self.job, self.file, &mut self.shelves);
+                Err(refusal)
+            }
         }
     }
 }

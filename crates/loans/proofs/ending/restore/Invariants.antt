@@ -1,5 +1,9 @@
+use Rattle.std.proofs.Common.{◌≡◌, length, take}
 use Rattle.loans.proofs.Restored.{Back}
 use Rattle.loans.proofs.ending.restore.Given as goal
 
-abbrev pub invariant-loop-position : goal.invariant-loop-position
-invariant-loop-position l = Back l.marks l.covered l.initial.file l.file l.loan l.position l.end
+-- the marks that are left stand first, and from there on all is put back
+abbrev pub invariant-loop-mark : goal.invariant-loop-mark
+invariant-loop-mark l =
+    (l.mark-iterator.iter.rest.now ≡ take (length l.mark-iterator.iter.rest.now) l.marks)
+    × Back l.marks l.covered l.initial.file l.file l.loan (length l.mark-iterator.iter.rest.now) l.end
