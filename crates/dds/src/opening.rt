@@ -1,5 +1,5 @@
 // Laying out a file.
-ghost use Rattle.std.specs.Prelude.{◌≡◌, ◌≤◌, take, Ok};
+ghost use Rattle.std.specs.Prelude.{◌≡◌, ◌≤◌, Ok};
 ghost use Rattle.dds.specs.Shapes.{shape_read};
 ghost use Rattle.dds.specs.Layouts.{TableOf, LaidOut, Opened, OpenedBy};
 ghost use Rattle.dds.specs.Plans.{pixel_begin};

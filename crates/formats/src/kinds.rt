@@ -39,7 +39,8 @@ pub enum FormatName {
 }
 
 impl Linear {
-    // Pixels of so many bits; none where no pixel has that size.
+    // Pixels of so many bits; none where no pixel has that size. An `if` and no `then`, whose closure would have to require the size again;
+    // so too for blocks.
     pub fn new(bits: u32) -> Option<Linear>
         ensures { MatchOption result (is_pixel_size bits ≡ false) (λ f. (is_pixel_size bits ≡ true) × (f.bits ≡ bits)) }
     {

@@ -1,5 +1,5 @@
 // Ending a loan: keeping or cancelling it.
-ghost use Rattle.std.specs.Prelude.{◌≡◌, ◌+◌, ◌<◌, length};
+ghost use Rattle.std.specs.Prelude.{◌≡◌, ◌<◌, length};
 ghost use Rattle.loans.specs.Jobs.{book_of};
 ghost use Rattle.loans.specs.Writing.{kept_by, cancelled_by, ledger_ended};
 ghost use Rattle.loans.specs.Stocks.{stock_of, lengths, OursWhere};

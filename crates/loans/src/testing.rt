@@ -42,10 +42,7 @@ fn tally(loans: &[Loan], marks: &[Mark], covered: usize) -> Option<[u32; 32]>
         left = left.checked_sub(mark.length)?;
         counts[position] += 1;
     }
-    if left > 0 {
-        return None;
-    }
-    Some(counts)
+    (left == 0).then_some(counts)
 }
 
 // Each loan has as many strokes as were counted at its position.

@@ -71,7 +71,11 @@ pub(crate) struct Snapshot {
 
 impl Snapshot {
     // How all stands by an expected state of a file.
-    pub(crate) fn told(heap: Global, head: &[&[u8]], state: &State<'_>) -> Result<Snapshot, Fail> {
+    pub(crate) fn expected(
+        heap: Global,
+        head: &[&[u8]],
+        state: &State<'_>,
+    ) -> Result<Snapshot, Fail> {
         Ok(Snapshot {
             file: file_of(heap, head, state.pieces)?,
             marks: state.marks.to_vec(heap)?,
@@ -110,7 +114,7 @@ impl Desk<'_> {
         head: &[&[u8]],
         state: &State<'_>,
     ) -> Result<(), Fail> {
-        let expected = Snapshot::told(rt.alloc(), head, state)?;
+        let expected = Snapshot::expected(rt.alloc(), head, state)?;
         assert_eq!(rt; self.snapshot(rt.alloc())?, expected);
         Ok(())
     }
@@ -138,7 +142,7 @@ impl Desk<'_> {
         scrap(docket, &mut self.job, &mut self.file, &mut self.shelves)
     }
 
-    // Makes the call of a line by the job's own method for it; `run` makes it as a value.
+    // Makes the call of a line by the job's own method for it, since these methods are what is tried; `run` makes calls as values.
     pub(crate) fn answer_to(&mut self, line: Line<'_>) -> Answer {
         let Desk { job, file, shelves } = self;
         match line.into() {

@@ -18,7 +18,8 @@ use std::test::Fail;
 
 const NOTHING: Stock<'static> = (&[], &[]);
 
-// The report, or the refusal and the number of the docket that came back, which is spent.
+// The report, or the refusal and the number of the docket that came back. A match and no map_err, here and below, since a docket must be spent in
+// the arm that has it.
 fn shipped(docket: Docket, job: &mut Job) -> Result<Report, (Refusal, u32)> {
     match ship(docket, job) {
         Ok(report) => Ok(report),

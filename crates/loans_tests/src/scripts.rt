@@ -158,7 +158,7 @@ impl Made<'_> {
     }
 }
 
-// What a run left, and what it answered. What stood among the answers before the run stands first.
+// What a run left, and what it answered, beside the calls that it took. What stood among the answers before the run stands first.
 fn check_left(
     rt: &(impl Abort + AllocGlobal),
     script: &Script<'_>,

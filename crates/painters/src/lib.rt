@@ -135,7 +135,7 @@ impl History<'_> {
 }
 
 // Who laid the newest stroke that stands over the byte at a place, after a run of calls that were answered so; none where no
-// stroke does.
+// stroke does. Calls and answers are two lists, as a run takes and gives them.
 pub fn painter_of(job: &Job, calls: &[Call<'_>], answers: &[Answer], place: u64) -> Option<Painter>
     ensures { Traced (book_of job.now).table (map deed_of calls.now) answers.now place result }
 {

@@ -5,7 +5,7 @@
 mod session;
 mod text;
 
-use crate::session::{Change, Desk, changes, last_piece, steps, trace};
+use crate::session::{Change, Desk, changed_runs, last_piece, steps, trace};
 use crate::text::{AnswerText, CallText};
 use formats::BuiltInCodes;
 use loans::{Answer, Call, Job, Mark, Shelves};
@@ -32,7 +32,7 @@ enum Fault {
     Unreadable(io::Error),
     #[error("{0}")]
     Refused(#[from] Refusal),
-    // printing failed, or what failed was told already
+    // printing failed or memory ran out, or what failed was told already
     #[error("{0}")]
     Told(#[from] io::Error),
 }
@@ -70,7 +70,7 @@ fn work_and_tell(
     println!(rt; "open {path}: {length} bytes")?;
     let calls = steps(last_piece(&desk.job, length));
     let answers = work(rt, &calls, desk)?;
-    let mut changes = changes(rt.alloc(), before, desk.file)?;
+    let mut changes = changed_runs(rt.alloc(), before, desk.file)?;
     trace(&mut changes, &desk.job, &calls, &answers);
     tell_changes(rt, &changes)
 }

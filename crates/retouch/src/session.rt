@@ -1,4 +1,4 @@
-// What is done to a file: the calls, one after the other, and what they changed.
+// What is done to a file: the calls, one after the other, the desk that they are made on, and what they changed.
 use dds::Piece;
 use loans::{Answer, Call, Docket, Job, Painting, Report, Shelves, Unspent, scrap, ship};
 use painters::{Painter, painter_of};
@@ -19,7 +19,7 @@ pub(crate) struct Change {
     pub(crate) painter: Option<Painter>,
 }
 
-// The piece that has the file's last byte.
+// The piece that has the file's last byte; the first piece where none has it.
 pub(crate) fn last_piece(job: &Job, length: usize) -> Piece {
     let owner = job.whose((length as u64).saturating_sub(1)).ok().flatten();
     owner.map(|(piece, _)| piece).unwrap_or_default()
@@ -64,7 +64,7 @@ pub(crate) fn steps(last: Piece) -> [Call<'static>; 13] {
 }
 
 // The runs of bytes that differ; whose they are is not asked yet.
-pub(crate) fn changes(
+pub(crate) fn changed_runs(
     heap: Global,
     before: &[u8],
     after: &[u8],

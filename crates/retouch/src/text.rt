@@ -3,7 +3,7 @@ use crate::session::Change;
 use loans::{Answer, Call};
 use std::fmt;
 
-// A type of its own, since what has no text in its own crate is given one only here; so is AnswerText.
+// Types of this program's own, this and AnswerText: a crate gives no text to types of another.
 #[derive(Clone, Copy)]
 pub(crate) struct CallText<'a>(pub(crate) Call<'a>);
 

@@ -19,6 +19,7 @@ const MOST: usize = 1_073_741_824;
 // no ghost field could say it of the whole shelf: the calls that read one tell it to their callers.
 #[derive(Drop)]
 pub struct Shelf<'a, T> {
+    // lent, with a count beside it: a Vec would own its memory
     memory: &'a mut [T],
     count: usize,
 }
