@@ -1,0 +1,83 @@
+-- Reading hex digits is taking the digits back to their bytes.
+use Rattle.std.proofs.Common.{◌≡◌, ℕ, zero, suc, ◌-◌, ◌+◌, ◌*◌, ◌/◌, ◌%◌, ◌<◌, ◌≤◌, Bool, true, false, cond, not, ◌&&◌, eqb, ltb, leb, List, [], ◌∷◌, ◌++◌, length, Some, None, Option, refl, sym, ap, ap₂, ◌∙◌, subst, arith, rules, tests, inl, inr}
+use Rattle.std.proofs.lemmas.Bool.{cases_lt, lt-ltb, le-ltb, ltb-true, and_parts, eqb-true, eq-eqb, ne_eqb, leb-true, le-leb, lt-leb, or_cases}
+use Rattle.std.proofs.lemmas.Option.{cond_some}
+use Rattle.std.specs.Fmt.{digit_glyph}
+use Rattle.std.specs.List.{list_all, flat_map, AllByRecursion}
+use Rattle.orders.specs.Spelling.{hex_pair}
+use Rattle.orders.specs.Words.{is_hex, are_pairs, nibble, bytes_of, bytes_at}
+
+-- what a hex digit counts has that digit
+nibble_takes : (d : ℕ) → is_hex d ≡ true → (digit_glyph false (nibble d) ≡ d) × (nibble d < 16)
+nibble_takes d h = elim (or_cases (leb 48 d && leb d 57) (leb 97 d && leb d 102) h) [
+  | inl e ↦
+    let b = and_parts (leb 48 d) (leb d 57) e in
+    let low = leb-true 48 d b.0 in
+    let high = leb-true d 57 b.1 in
+    rw (lt-ltb d 97 (omega arith), lt-ltb (d - 48) 10 (omega arith)) (omega arith, omega arith)
+  | inr e ↦
+    let b = and_parts (leb 97 d) (leb d 102) e in
+    let low = leb-true 97 d b.0 in
+    let high = leb-true d 102 b.1 in
+    rw (le-ltb d 97 (omega arith), le-ltb (d - 97 + 10) 10 (omega arith)) (omega arith, omega arith)
+]
+
+-- the digit of a number below 16 is one, and counts it
+glyph_again : (n : ℕ) → n < 16 → (is_hex (digit_glyph false n) ≡ true) × (nibble (digit_glyph false n) ≡ n)
+glyph_again n small = elim (cases_lt n 10) [
+  | inl lt ↦ rw (lt-ltb n 10 lt, le-leb 48 (48 + n) (omega arith), le-leb (48 + n) 57 (omega arith), lt-ltb (48 + n) 97 (omega arith)) (refl, omega arith)
+  | inr le ↦ rw (le-ltb n 10 le, le-leb 48 (87 + n) (omega arith), lt-leb (87 + n) 57 (omega arith), le-leb 97 (87 + n) (omega arith), le-leb (87 + n) 102 (omega arith), le-ltb (87 + n) 97 (omega arith)) (refl, omega arith)
+]
+
+spelled : (bs : List ℕ) → AllByRecursion (λ b. b < 256) bs
+    → (list_all is_hex (flat_map hex_pair bs) ≡ true) × (length (flat_map hex_pair bs) ≡ 2 * length bs) × (bytes_of (flat_map hex_pair bs) ≡ bs)
+spelled [] h = (refl, refl, refl)
+spelled (b ∷ bs) h =
+    let rest = spelled bs h.1 in
+    let high = glyph_again (b / 16) (omega (arith, h.0)) in
+    let low = glyph_again (b % 16) (omega arith) in (
+      rw (high.0, low.0) rest.0,
+      omega (arith, rest.1),
+      ap₂ (λ (x : ℕ) (xs : List ℕ). x ∷ xs) (rw (high.1, low.1) (omega arith)) rest.2,
+    )
+
+-- bytes are read from their digits
+pub bytes_again : (bs : List ℕ) → 0 < length bs → AllByRecursion (λ b. b < 256) bs → bytes_at (flat_map hex_pair bs) ≡ Some bs
+bytes_again bs some small =
+    let w = spelled bs small in
+    let two : length (flat_map hex_pair bs) ≡ 2 * length bs = w.1 in
+    rw (ne_eqb (length (flat_map hex_pair bs)) 0 (λ e. omega arith), eq-eqb (length (flat_map hex_pair bs) % 2) 0 (omega arith), w.0, w.2) refl
+
+taken : (ds : List ℕ) → length ds % 2 ≡ 0 → list_all is_hex ds ≡ true
+    → (flat_map hex_pair (bytes_of ds) ≡ ds) × (2 * length (bytes_of ds) ≡ length ds) × AllByRecursion (λ b. b < 256) (bytes_of ds)
+taken [] even h = (refl, refl, tt)
+taken (d ∷ []) even h = absurd (omega arith)
+taken (d ∷ e ∷ ds) even h =
+    let a = and_parts (is_hex d) (is_hex e && list_all is_hex ds) h in
+    let b = and_parts (is_hex e) (list_all is_hex ds) a.1 in
+    let rest = taken ds (omega arith) b.1 in
+    let x = nibble_takes d a.0 in
+    let y = nibble_takes e b.0 in
+    let high : (nibble d * 16 + nibble e) / 16 ≡ nibble d = omega (arith, x.1, y.1) in
+    let low : (nibble d * 16 + nibble e) % 16 ≡ nibble e = omega (arith, x.1, y.1) in (
+      rw (high, low, x.0, y.0) (ap (λ (xs : List ℕ). d ∷ e ∷ xs) rest.0),
+      omega (arith, rest.1),
+      (omega (arith, x.1, y.1), rest.2),
+    )
+
+-- and from nothing else
+pub bytes_takes : (ds bs : List ℕ) → bytes_at ds ≡ Some bs → (ds ≡ flat_map hex_pair bs) × (0 < length bs) × AllByRecursion (λ b. b < 256) bs
+bytes_takes ds bs e =
+    let c = cond_some (are_pairs ds) (bytes_of ds) bs e in
+    let a = and_parts (not (eqb (length ds) 0)) (eqb (length ds % 2) 0 && list_all is_hex ds) c.0 in
+    let b = and_parts (eqb (length ds % 2) 0) (list_all is_hex ds) a.1 in
+    let t = taken ds (eqb-true _ _ b.0) b.1 in
+    let some : 0 < length ds = not_none (length ds) a.0 in
+    subst (λ (xs : List ℕ). (ds ≡ flat_map hex_pair xs) × (0 < length xs) × AllByRecursion (λ b. b < 256) xs) c.1 (sym t.0, omega (arith, t.1), t.2)
+  where
+    not_none : (n : ℕ) → not (eqb n 0) ≡ true → 0 < n
+    not_none zero h = absurd cc
+    not_none (suc n) h = omega arith
+
+pub all_hex : (bs : List ℕ) → AllByRecursion (λ b. b < 256) bs → list_all is_hex (flat_map hex_pair bs) ≡ true
+all_hex bs small = (spelled bs small).0

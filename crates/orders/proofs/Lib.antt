@@ -1,0 +1,5 @@
+mod Numbers
+mod Yielding
+mod Fields
+mod Hex
+mod Spelled

@@ -1,0 +1,135 @@
+// What a line orders.
+ghost use Rattle.std.specs.Prelude.{◌≡◌, ◌<◌, map, length, MatchOption};
+ghost use Rattle.std.specs.List.{slice_split};
+ghost use Rattle.std.specs.Option.{option_map};
+ghost use Rattle.orders.specs.Reading.{is_space, told, loan_at, paint_at, undo_at, only_at, order_of, words_of, order_at};
+
+use crate::digits::Digits;
+use crate::number::value;
+use arrayvec::ArrayVec;
+use dds::Piece;
+
+// A line of the order text, read. The bytes of a paint stay in the line, as digits.
+#[derive(Clone, Copy, PartialEq, Eq, Debug)]
+pub enum Order<'a> {
+    Loan {
+        piece: Piece,
+        borrower: u32,
+    },
+    // Of the element's first piece.
+    LoanElement {
+        element: u32,
+        borrower: u32,
+    },
+    Paint {
+        loan: u32,
+        borrower: u32,
+        row: u32,
+        first: u32,
+        digits: Digits<'a>,
+    },
+    Undo {
+        loan: u32,
+        borrower: u32,
+    },
+    Keep {
+        loan: u32,
+    },
+    Cancel {
+        loan: u32,
+    },
+}
+
+fn loan<'a>(fields: &[&'a [u8]]) -> Option<Order<'a>>
+    ensures { option_map told result ≡ loan_at (map words_of fields.now) }
+{
+    match fields {
+        [element, level, slice, borrower] => Some(Order::Loan {
+            piece: Piece {
+                element: value(element)?,
+                level: value(level)?,
+                slice: value(slice)?,
+            },
+            borrower: value(borrower)?,
+        }),
+        [element, borrower] => Some(Order::LoanElement {
+            element: value(element)?,
+            borrower: value(borrower)?,
+        }),
+        _ => None,
+    }
+}
+
+fn paint<'a>(fields: &[&'a [u8]]) -> Option<Order<'a>>
+    ensures { option_map told result ≡ paint_at (map words_of fields.now) }
+{
+    let [loan, borrower, row, first, digits] = fields else {
+        return None;
+    };
+    Some(Order::Paint {
+        loan: value(loan)?,
+        borrower: value(borrower)?,
+        row: value(row)?,
+        first: value(first)?,
+        digits: Digits::of(digits)?,
+    })
+}
+
+fn undo<'a>(fields: &[&'a [u8]]) -> Option<Order<'a>>
+    ensures { option_map told result ≡ undo_at (map words_of fields.now) }
+{
+    let [loan, borrower] = fields else {
+        return None;
+    };
+    Some(Order::Undo {
+        loan: value(loan)?,
+        borrower: value(borrower)?,
+    })
+}
+
+// The number of a line that has only one.
+fn only(fields: &[&[u8]]) -> Option<u32>
+    ensures { result ≡ only_at (map words_of fields.now) }
+{
+    let [loan] = fields else {
+        return None;
+    };
+    value(loan)
+}
+
+fn order_for<'a>(letter: char, fields: &[&'a [u8]]) -> Option<Order<'a>>
+    ensures { option_map told result ≡ order_of letter (map words_of fields.now) }
+{
+    match letter {
+        'L' => loan(fields),
+        'P' => paint(fields),
+        'U' => undo(fields),
+        'K' => Some(Order::Keep {
+            loan: only(fields)?,
+        }),
+        'C' => Some(Order::Cancel {
+            loan: only(fields)?,
+        }),
+        _ => None,
+    }
+}
+
+// What stands between the spaces of a line; none where that is more than any order has.
+fn words(line: &[u8]) -> Option<ArrayVec<&[u8], 6>>
+    ensures { MatchOption result (6 < length (slice_split is_space line.now)) (λ words. map words_of words.items ≡ slice_split is_space line.now) }
+{
+    let mut words = ArrayVec::new();
+    words.extend(line.split(|byte| *byte == b' ')).ok()?;
+    Some(words)
+}
+
+impl<'a> Order<'a> {
+    fn read(line: &'a [u8]) -> Option<Order<'a>>
+        ensures { option_map told result ≡ order_at line.now }
+    {
+        match words(line)?.as_slice() {
+            [[letter], fields @ ..] => order_for(char::from(*letter), fields),
+            _ => None,
+        }
+    }
+}
