@@ -28,5 +28,5 @@ mod Endings
 mod Restored
 mod Handed
 mod Scrapped
-mod Calling
+pub mod Calling
 mod RunMade

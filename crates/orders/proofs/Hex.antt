@@ -1,5 +1,6 @@
 -- Reading hex digits is taking the digits back to their bytes.
-use Rattle.std.proofs.Common.{◌≡◌, ℕ, zero, suc, ◌-◌, ◌+◌, ◌*◌, ◌/◌, ◌%◌, ◌<◌, ◌≤◌, Bool, true, false, cond, not, ◌&&◌, eqb, ltb, leb, List, [], ◌∷◌, ◌++◌, length, Some, None, Option, refl, sym, ap, ap₂, ◌∙◌, subst, arith, rules, tests, inl, inr}
+use Rattle.std.proofs.Common.{◌≡◌, ℕ, zero, suc, ◌-◌, ◌+◌, ◌*◌, ◌/◌, ◌%◌, ◌<◌, ◌≤◌, Bool, true, false, cond, not, ◌&&◌, eqb, ltb, leb, List, [], ◌∷◌, ◌++◌, length, Some, None, Option, refl, sym, ap, ap₂, ◌∙◌, subst, arith, inl, inr, append_assoc, length-append}
+use Rattle.std.proofs.lemmas.List.{append-nil}
 use Rattle.std.proofs.lemmas.Bool.{cases_lt, lt-ltb, le-ltb, ltb-true, and_parts, eqb-true, eq-eqb, ne_eqb, leb-true, le-leb, lt-leb, or_cases}
 use Rattle.std.proofs.lemmas.Option.{cond_some}
 use Rattle.std.specs.Fmt.{digit_glyph}
@@ -81,3 +82,38 @@ bytes_takes ds bs e =
 
 pub all_hex : (bs : List ℕ) → AllByRecursion (λ b. b < 256) bs → list_all is_hex (flat_map hex_pair bs) ≡ true
 all_hex bs small = (spelled bs small).0
+
+-- while bytes are read from digits: those that were read, and the digits that are left
+pub record Left (text digits read : List ℕ) : Type 0 where
+  pub all : read ++ bytes_of digits ≡ bytes_of text
+  pub hex : list_all is_hex digits ≡ true
+  pub room : 2 * length read + length digits ≤ 16384
+
+pub left_first : (text : List ℕ) → are_pairs text ≡ true → length text ≤ 16384 → Left text text []
+left_first text pairs room =
+    record {
+      all = refl;
+      hex = (and_parts _ _ (and_parts (not (eqb (length text) 0)) (eqb (length text % 2) 0 && list_all is_hex text) pairs).1).1;
+      room = omega arith;
+    }
+
+pub left_more : (text digits read : List ℕ) (h l : ℕ) (ds : List ℕ) → digits ≡ h ∷ l ∷ ds → Left text digits read → Left text ds (read ++ (nibble h * 16 + nibble l) ∷ [])
+left_more text digits read h l ds e w =
+    let here = subst (λ (xs : List ℕ). Left text xs read) e w in
+    record {
+      all = append_assoc read ((nibble h * 16 + nibble l) ∷ []) (bytes_of ds) ∙ here.all;
+      hex = (and_parts (is_hex l) (list_all is_hex ds) (and_parts (is_hex h) (is_hex l && list_all is_hex ds) here.hex).1).1;
+      room = omega (arith, here.room, length-append read ((nibble h * 16 + nibble l) ∷ []));
+    }
+
+pub left_none : (text digits read : List ℕ) → length digits < 2 → Left text digits read → read ≡ bytes_of text
+left_none text [] read few w = sym (append-nil read) ∙ w.all
+left_none text (d ∷ []) read few w = sym (append-nil read) ∙ w.all
+left_none text (d ∷ e ∷ ds) read few w = absurd (omega arith)
+
+-- pairs of digits are spelled by their bytes
+pub pairs_again : (ds : List ℕ) → are_pairs ds ≡ true → flat_map hex_pair (bytes_of ds) ≡ ds
+pairs_again ds h =
+    let a = and_parts (not (eqb (length ds) 0)) (eqb (length ds % 2) 0 && list_all is_hex ds) h in
+    let b = and_parts (eqb (length ds % 2) 0) (list_all is_hex ds) a.1 in
+    (taken ds (eqb-true _ _ b.0) b.1).0

@@ -3,3 +3,6 @@ mod Yielding
 mod Fields
 mod Hex
 mod Spelled
+mod Cutting
+mod Answering
+mod Printing

@@ -7,12 +7,15 @@ use Rattle.std.proofs.lemmas.List.Elements.{All-from_recursion}
 use Rattle.std.specs.Prelude.{decimal}
 use Rattle.std.specs.Char.{is_ascii_digit}
 use Rattle.std.specs.List.{AllByRecursion, flat_map, join_with_byte, slice_split, list_all}
-use Rattle.std.specs.Option.{option_map, option_and_then}
+use Rattle.std.specs.Option.{option_map, option_and_then, ok_or}
 use Rattle.loans.specs.Strokes.{Painting}
 use Rattle.orders.specs.Spelling.{Told, letter, numbers, digits, words, spelling, IsOrder, hex_pair}
 use Rattle.orders.specs.Spelling.Told.{lend, lend_element, paint, undo, keep, cancel}
+use Rattle.refusal.specs.declared.Refusal.TheVariants.{MalformedOrder}
+use Rattle.orders.specs.declared.order.Order.{Order}
+use Rattle.orders.specs.Orders.{Parsed}
 use Rattle.orders.specs.Words.{value_at, bytes_at, is_hex}
-use Rattle.orders.specs.Reading.{is_space, loan_at, paint_at, undo_at, only_at, with_number, order_of, by_letter, by_words, order_at}
+use Rattle.orders.specs.Reading.{is_space, loan_at, paint_at, undo_at, only_at, with_number, order_of, by_letter, by_words, order_at, told}
 use Rattle.orders.proofs.Numbers.{value_again, value_takes, decimal_digits}
 use Rattle.orders.proofs.Hex.{bytes_again, bytes_takes, all_hex}
 
@@ -199,3 +202,11 @@ order_takes line t h =
 -- no line spells two orders
 pub one_order : (a b : Told) → IsOrder a → IsOrder b → spelling a ≡ spelling b → a ≡ b
 one_order a b h k e = some_is a b (sym (order_again a h) ∙ ap order_at e ∙ order_again b k)
+
+-- what parsing answers
+pub parsed : (line : List ℕ) (o : Option Order) → option_map told o ≡ order_at line → Parsed line (ok_or o MalformedOrder)
+parsed line None e = (refl, λ t h same. none (e ∙ ap order_at same ∙ order_again t h))
+  where
+    none : {t : Told} → None ≡ done t → ⊥
+    none e = absurd cc
+parsed line (Some o) e = order_takes line (told o) (sym e)

@@ -1,3 +1,7 @@
 pub mod Spelling
 pub mod Words
 pub mod Reading
+pub mod Orders
+pub mod Replies
+pub mod Lines
+pub mod Days

@@ -1,8 +1,10 @@
 // The hex digits of a paint order.
-ghost use Rattle.std.specs.Prelude.{◌≡◌, true};
+ghost use Rattle.std.specs.Prelude.{◌≡◌, ◌<◌, ◌≤◌, true, length};
 ghost use Rattle.std.specs.List.{list_all};
 ghost use Rattle.std.specs.Option.{option_map};
 ghost use Rattle.orders.specs.Words.{is_hex, are_pairs, nibble, bytes_of, bytes_at};
+
+use arrayvec::ArrayVec;
 
 // Pairs of the characters 0-9 and a-f, at least one pair: each pair is a byte. They stay in the line that has them.
 #[derive(Clone, Copy, PartialEq, Eq, Debug)]
@@ -20,7 +22,8 @@ fn is_hex(digit: u8) -> bool
 // What a digit counts.
 fn nibble(digit: u8) -> u8
     requires { is_hex digit ≡ true }
-    ensures { result ≡ nibble digit }
+    ensures value { result ≡ nibble digit }
+    ensures small { result < 16 }
 {
     if digit < b'a' { digit - b'0' } else { digit - b'a' + 10 }
 }
@@ -40,5 +43,19 @@ impl<'a> Digits<'a> {
             return None;
         }
         Some(Digits { text })
+    }
+
+    // The bytes that they spell.
+    pub(crate) fn bytes(&self) -> ArrayVec<u8, 8192>
+        requires { length self.now.text.now ≤ 16384 }
+        ensures { result.items ≡ bytes_of self.now.text.now }
+    {
+        let mut bytes = ArrayVec::new();
+        let mut digits = self.text;
+        while let [high, low, rest @ ..] = digits {
+            bytes.push(nibble(*high) * 16 + nibble(*low));
+            digits = rest;
+        }
+        bytes
     }
 }

@@ -1,9 +1,14 @@
 // The orders of a workshop's day: how a line is spelled, what it means, and what is printed for it.
 #![tactic(auto)]
 
+mod day;
 mod digits;
+mod lines;
 mod number;
 mod order;
+mod reply;
 
+pub use day::Ending;
 pub use digits::Digits;
 pub use order::Order;
+pub use reply::Reply;

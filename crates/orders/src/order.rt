@@ -3,11 +3,15 @@ ghost use Rattle.std.specs.Prelude.{◌≡◌, ◌<◌, map, length, MatchOption
 ghost use Rattle.std.specs.List.{slice_split};
 ghost use Rattle.std.specs.Option.{option_map};
 ghost use Rattle.orders.specs.Reading.{is_space, told, loan_at, paint_at, undo_at, only_at, order_of, words_of, order_at};
+ghost use Rattle.orders.specs.Orders.{Parsed, EachLineIsOneOrder, Fits, deed_for};
+ghost use Rattle.loans.specs.Calls.{Called};
 
 use crate::digits::Digits;
 use crate::number::value;
 use arrayvec::ArrayVec;
 use dds::Piece;
+use loans::{Answer, Call, Job, Painting, Shelves};
+use refusal::Refusal;
 
 // A line of the order text, read. The bytes of a paint stay in the line, as digits.
 #[derive(Clone, Copy, PartialEq, Eq, Debug)]
@@ -131,5 +135,57 @@ impl<'a> Order<'a> {
             [[letter], fields @ ..] => order_for(char::from(*letter), fields),
             _ => None,
         }
+    }
+
+    // The order that a line tells. Refuses with MalformedOrder where it tells none.
+    pub fn parse(line: &'a [u8]) -> Result<Order<'a>, Refusal>
+        ensures line { Parsed line.now result }
+        ensures unique { EachLineIsOneOrder }
+    {
+        Self::read(line).ok_or(Refusal::MalformedOrder)
+    }
+
+    // Makes the call that it means.
+    pub(crate) fn carry_out(
+        self,
+        job: &mut Job,
+        file: &mut [u8],
+        shelves: &mut Shelves<'_>,
+    ) -> Answer
+        requires { Fits self }
+        ensures { Called (deed_for (told self.entry)) job.old file.old shelves.old result job.new file.new shelves.new }
+    {
+        let call = match self {
+            Order::Loan { piece, borrower } => Call::Loan { piece, borrower },
+            Order::LoanElement { element, borrower } => Call::Loan {
+                piece: Piece {
+                    element,
+                    level: 0,
+                    slice: 0,
+                },
+                borrower,
+            },
+            Order::Paint {
+                loan,
+                borrower,
+                row,
+                first,
+                digits,
+            } => {
+                let bytes = digits.bytes();
+                let painting = Painting {
+                    loan,
+                    borrower,
+                    row,
+                    first,
+                    bytes: bytes.as_slice(),
+                };
+                return job.carry_out(file, shelves, Call::Paint(painting));
+            }
+            Order::Undo { loan, borrower } => Call::Undo { loan, borrower },
+            Order::Keep { loan } => Call::Keep { loan },
+            Order::Cancel { loan } => Call::Cancel { loan },
+        };
+        job.carry_out(file, shelves, call)
     }
 }
