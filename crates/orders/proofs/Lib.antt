@@ -6,3 +6,4 @@ mod Spelled
 mod Cutting
 mod Answering
 mod Printing
+mod Working

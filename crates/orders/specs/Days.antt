@@ -13,6 +13,7 @@ use Rattle.orders.specs.declared.reply.Reply.{Reply}
 use Rattle.orders.specs.declared.reply.Reply.TheVariants as replies
 use Rattle.orders.specs.Spelling.{Told, IsOrder, spelling}
 use Rattle.orders.specs.Orders.{deed_for}
+use Rattle.orders.specs.Replies.{reply_text, reply_to}
 
 -- the last line that is printed
 abbrev pub closing_reply : Ending → Reply
@@ -39,6 +40,32 @@ pub record Answered (line : List ℕ) (s : State) (answer : Result ℕ Refusal) 
   pub asks : Asks line wish
   pub answered : answer ≡ answer_for s wish
   pub left : t ≡ after_line s wish
+
+-- each line asks for what stands in its place
+abbrev pub EachAsks : List (List ℕ) → List (Option Deed) → Type 0
+EachAsks [] [] = Unit {0}
+EachAsks [] (w ∷ ws) = ⊥
+EachAsks (l ∷ ls) [] = ⊥
+EachAsks (l ∷ ls) (w ∷ ws) = Asks l w × EachAsks ls ws
+
+-- the same of lines, one after the other
+abbrev pub answers_for : State → List (Option Deed) → List (Result ℕ Refusal)
+answers_for s [] = []
+answers_for s (w ∷ ws) = answer_for s w ∷ answers_for (after_line s w) ws
+
+abbrev pub after_lines : State → List (Option Deed) → State
+after_lines s [] = s
+after_lines s (w ∷ ws) = after_lines (after_line s w) ws
+
+-- the lines that are printed for answers
+abbrev pub answer_lines : List (Result ℕ Refusal) → List ℕ
+answer_lines rs = flat_map (λ (r : Result ℕ Refusal). reply_text (reply_to r)) rs
+
+pub record AllAnswered (lines : List (List ℕ)) (s : State) (old : List ℕ) (t : State) (new : List ℕ) : Type 0 where
+  pub wishes : List (Option Deed)
+  pub asked : EachAsks lines wishes
+  pub printed : new ≡ old ++ answer_lines (answers_for s wishes)
+  pub left : t ≡ after_lines s wishes
 
 -- the file ships where no loan is out; else every loan is cancelled, and the file does not ship
 abbrev pub Closed : State → Ending → List ℕ → Type 0

@@ -1,10 +1,12 @@
 // A day's orders, from the texture and their text to what is printed and whether the texture ships.
-ghost use Rattle.std.specs.Prelude.{◌≡◌, ◌+◌, ◌≤◌, ◌++◌, Some, length, vec_len, vec_capacity};
+ghost use Rattle.std.specs.Prelude.{◌≡◌, ◌+◌, ◌*◌, ◌≤◌, ◌++◌, Some, IfOk, length, vec_len, vec_capacity};
 ghost use Rattle.loans.specs.Jobs.{book_of};
+ghost use Rattle.loans.specs.Stocks.{stock_of};
 ghost use Rattle.loans.specs.Strokes.{state_of};
 ghost use Rattle.loans.specs.Scrapping.{AtHome};
+ghost use Rattle.orders.specs.Lines.{lines_of};
 ghost use Rattle.orders.specs.Replies.{reply_text};
-ghost use Rattle.orders.specs.Days.{closing_reply, Answered, Closed};
+ghost use Rattle.orders.specs.Days.{closing_reply, Answered, AllAnswered, Closed};
 
 use crate::lines::Lines;
 use crate::order::Order;
@@ -46,10 +48,33 @@ fn print(printed: &mut Vec<u8>, reply: Reply)
 
 // Carries out what a line orders.
 fn answer(job: &mut Job, file: &mut [u8], shelves: &mut Shelves<'_>, line: &[u8]) -> Answer
-    requires { length line.now ≤ 16384 }
-    ensures { Answered line.now (state_of job.old file.old shelves.old) result (state_of job.new file.new shelves.new) }
+    requires short { length line.now ≤ 16384 }
+    requires few { (stock_of shelves.old).most_marks ≤ 65535 }
+    ensures answered { Answered line.now (state_of job.old file.old shelves.old) result (state_of job.new file.new shelves.new) }
+    ensures small { IfOk result (λ number. number ≤ 65535) }
 {
     Order::parse(line)?.carry_out(job, file, shelves)
+}
+
+// Carries out the orders of a text, and prints a line for each.
+fn answer_all(
+    job: &mut Job,
+    file: &mut [u8],
+    shelves: &mut Shelves<'_>,
+    orders: &[u8],
+    printed: &mut Vec<u8>,
+)
+    requires short { length orders.now ≤ 16384 }
+    requires few { (stock_of shelves.old).most_marks ≤ 65535 }
+    requires room { vec_len printed.old + 9 * length orders.now ≤ vec_capacity printed.old }
+    ensures answered { AllAnswered (lines_of orders.now) (state_of job.old file.old shelves.old) printed.old.items (state_of job.new file.new shelves.new) printed.new.items }
+    ensures length { vec_len printed.new ≤ vec_len printed.old + 9 * length orders.now }
+    ensures capacity { vec_capacity printed.new ≡ vec_capacity printed.old }
+{
+    for line in Lines::of(orders) {
+        let answer = answer(job, file, shelves, line);
+        print(printed, Reply::from(answer));
+    }
 }
 
 // Ships, or scraps where a loan is out.

@@ -2,14 +2,14 @@ use Rattle.std.proofs.Common.{Some, refl}
 use Rattle.loans.proofs.Calling.{called_answer, called_state}
 use Rattle.orders.specs.Reading.{told}
 use Rattle.orders.specs.Orders.{deed_for}
-use Rattle.orders.proofs.Answering.{order_fits}
+use Rattle.orders.proofs.Answering.{order_fits, answer_small}
 use Rattle.orders.proofs.day.answer.Goals as goal
 
 pub carry_out-requires : goal.carry_out-requires
-carry_out-requires c = order_fits c.args.line.now c.in_ok-parse.field-0 c.in_ok-parse.ensures.line.0 c.requires
+carry_out-requires c = order_fits c.args.line.now c.in_ok-parse.field-0 c.in_ok-parse.ensures.line.0 c.requires.short
 
-pub returns : goal.returns
-returns c =
+pub returns-clause-answered : goal.returns-clause-answered
+returns-clause-answered c =
     let order = told c.in_ok-parse.field-0 in
     let line = c.in_ok-parse.ensures.line in
     record {
@@ -18,3 +18,6 @@ returns c =
       answered = called_answer (deed_for order) _ _ _ _ _ _ _ c.carry_out.ensures;
       left = called_state (deed_for order) _ _ _ _ _ _ _ c.carry_out.ensures;
     }
+
+pub returns-clause-small : goal.returns-clause-small
+returns-clause-small c = answer_small (deed_for (told c.in_ok-parse.field-0)) _ _ _ _ _ _ _ c.carry_out.ensures c.requires.few
