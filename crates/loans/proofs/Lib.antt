@@ -7,7 +7,7 @@ mod Recounting
 mod Allowed
 mod Listed
 pub mod Searches
-mod Calls
+pub mod Calls
 mod Passing
 mod Lawful
 mod Underneath

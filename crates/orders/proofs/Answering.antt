@@ -1,5 +1,5 @@
 -- One line after the other is answered.
-use Rattle.std.proofs.Common.{◌≡◌, ℕ, suc, ◌+◌, ◌*◌, ◌<◌, ◌≤◌, Bool, true, false, cond, List, [], ◌∷◌, ◌++◌, map, length, take, Some, None, Option, Ok, Err, Result, refl, sym, ap, ap₂, ◌∙◌, subst, arith, length-append, length-take-le}
+use Rattle.std.proofs.Common.{◌≡◌, ℕ, suc, ◌≤◌, Bool, true, false, cond, List, [], ◌∷◌, ◌++◌, map, length, Some, None, Option, Ok, Err, Result, refl, ap, ◌∙◌, arith, length-append, length-take-le}
 use Rattle.std.specs.Prelude.{decimal, IfOk}
 use Rattle.shelf.specs.Model.{contents}
 use Rattle.shelf.proofs.Shelves.{counted, count_within}

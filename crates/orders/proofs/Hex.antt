@@ -1,7 +1,7 @@
 -- Reading hex digits is taking the digits back to their bytes.
-use Rattle.std.proofs.Common.{◌≡◌, ℕ, zero, suc, ◌-◌, ◌+◌, ◌*◌, ◌/◌, ◌%◌, ◌<◌, ◌≤◌, Bool, true, false, cond, not, ◌&&◌, eqb, ltb, leb, List, [], ◌∷◌, ◌++◌, length, Some, None, Option, refl, sym, ap, ap₂, ◌∙◌, subst, arith, inl, inr, append_assoc, length-append}
+use Rattle.std.proofs.Common.{◌≡◌, ℕ, zero, suc, ◌-◌, ◌+◌, ◌*◌, ◌/◌, ◌%◌, ◌<◌, ◌≤◌, true, false, not, ◌&&◌, eqb, leb, List, [], ◌∷◌, ◌++◌, length, Some, refl, sym, ap, ap₂, ◌∙◌, subst, arith, inl, inr, append_assoc, length-append}
 use Rattle.std.proofs.lemmas.List.{append-nil}
-use Rattle.std.proofs.lemmas.Bool.{cases_lt, lt-ltb, le-ltb, ltb-true, and_parts, eqb-true, eq-eqb, ne_eqb, leb-true, le-leb, lt-leb, or_cases}
+use Rattle.std.proofs.lemmas.Bool.{cases_lt, lt-ltb, le-ltb, and_parts, eqb-true, eq-eqb, ne_eqb, leb-true, le-leb, lt-leb, or_cases}
 use Rattle.std.proofs.lemmas.Option.{cond_some}
 use Rattle.std.specs.Fmt.{digit_glyph}
 use Rattle.std.specs.List.{list_all, flat_map, AllByRecursion}
@@ -12,15 +12,15 @@ use Rattle.orders.specs.Words.{is_hex, are_pairs, nibble, bytes_of, bytes_at}
 nibble_takes : (d : ℕ) → is_hex d ≡ true → (digit_glyph false (nibble d) ≡ d) × (nibble d < 16)
 nibble_takes d h = elim (or_cases (leb 48 d && leb d 57) (leb 97 d && leb d 102) h) [
   | inl e ↦
-    let b = and_parts (leb 48 d) (leb d 57) e in
-    let low = leb-true 48 d b.0 in
-    let high = leb-true d 57 b.1 in
-    rw (lt-ltb d 97 (omega arith), lt-ltb (d - 48) 10 (omega arith)) (omega arith, omega arith)
+      let b = and_parts (leb 48 d) (leb d 57) e in
+      let low = leb-true 48 d b.0 in
+      let high = leb-true d 57 b.1 in
+      rw (lt-ltb d 97 (omega arith), lt-ltb (d - 48) 10 (omega arith)) (omega arith, omega arith)
   | inr e ↦
-    let b = and_parts (leb 97 d) (leb d 102) e in
-    let low = leb-true 97 d b.0 in
-    let high = leb-true d 102 b.1 in
-    rw (le-ltb d 97 (omega arith), le-ltb (d - 97 + 10) 10 (omega arith)) (omega arith, omega arith)
+      let b = and_parts (leb 97 d) (leb d 102) e in
+      let low = leb-true 97 d b.0 in
+      let high = leb-true d 102 b.1 in
+      rw (le-ltb d 97 (omega arith), le-ltb (d - 97 + 10) 10 (omega arith)) (omega arith, omega arith)
 ]
 
 -- the digit of a number below 16 is one, and counts it

@@ -7,3 +7,4 @@ mod Cutting
 mod Answering
 mod Printing
 mod Working
+mod Days

@@ -1,5 +1,5 @@
 -- Every order is read from its line, and a line that is read as an order is that order's.
-use Rattle.std.proofs.Common.{◌≡◌, ℕ, suc, ◌+◌, ◌<◌, ◌≤◌, ◌^◌, Bool, true, false, cond, ◌&&◌, eqb, List, [], ◌∷◌, ◌++◌, map, length, All, Some, None, Option, refl, sym, ap, ap₂, ◌∙◌, subst, arith, inl, inr, ◌⊎◌}
+use Rattle.std.proofs.Common.{◌≡◌, ℕ, ◌<◌, ◌^◌, Bool, true, false, cond, eqb, List, [], ◌∷◌, ◌++◌, map, Some, None, Option, refl, sym, ap, ap₂, ◌∙◌, subst, inl, inr, ◌⊎◌}
 use Rattle.std.proofs.lemmas.Bool.{eqb-true, ne_eqb, and_parts, true≢false}
 use Rattle.std.proofs.lemmas.Option.{option_and_then_some}
 use Rattle.std.proofs.lemmas.List.Splits.{slice_split_at, slice_split_none, join_with_byte-slice_split}
@@ -7,15 +7,14 @@ use Rattle.std.proofs.lemmas.List.Elements.{All-from_recursion}
 use Rattle.std.specs.Prelude.{decimal}
 use Rattle.std.specs.Char.{is_ascii_digit}
 use Rattle.std.specs.List.{AllByRecursion, flat_map, join_with_byte, slice_split, list_all}
-use Rattle.std.specs.Option.{option_map, option_and_then, ok_or}
-use Rattle.loans.specs.Strokes.{Painting}
+use Rattle.std.specs.Option.{option_map, ok_or}
 use Rattle.orders.specs.Spelling.{Told, letter, numbers, digits, words, spelling, IsOrder, hex_pair}
 use Rattle.orders.specs.Spelling.Told.{lend, lend_element, paint, undo, keep, cancel}
 use Rattle.refusal.specs.declared.Refusal.TheVariants.{MalformedOrder}
 use Rattle.orders.specs.declared.order.Order.{Order}
 use Rattle.orders.specs.Orders.{Parsed}
 use Rattle.orders.specs.Words.{value_at, bytes_at, is_hex}
-use Rattle.orders.specs.Reading.{is_space, loan_at, paint_at, undo_at, only_at, with_number, order_of, by_letter, by_words, order_at, told}
+use Rattle.orders.specs.Reading.{is_space, loan_at, paint_at, undo_at, only_at, with_number, order_of, by_words, order_at, told}
 use Rattle.orders.proofs.Numbers.{value_again, value_takes, decimal_digits}
 use Rattle.orders.proofs.Hex.{bytes_again, bytes_takes, all_hex}
 
@@ -138,11 +137,11 @@ paint_takes (n ∷ who ∷ r ∷ f ∷ ds ∷ []) t h =
     let c = took r _ t b.more in
     let d = took f _ t c.more in
     option_and_then_some _ (bytes_at ds) t d.more (λ bytes e g.
-        let k = bytes_takes ds bytes e in
-        as_order _ (paint (record { loan = a.number; borrower = b.number; row = c.number; first = d.number; laid = bytes })) t g (
-          cons_is _ _ _ _ refl (cons_is _ _ _ _ a.word (cons_is _ _ _ _ b.word (cons_is _ _ _ _ c.word (cons_is _ _ _ _ d.word (cons_is _ _ _ _ k.0 refl))))),
-          record { numbers = (a.small, (b.small, (c.small, (d.small, tt)))); bytes = (k.1, k.2) },
-        ))
+    let k = bytes_takes ds bytes e in
+    as_order _ (paint (record { loan = a.number; borrower = b.number; row = c.number; first = d.number; laid = bytes })) t g (
+      cons_is _ _ _ _ refl (cons_is _ _ _ _ a.word (cons_is _ _ _ _ b.word (cons_is _ _ _ _ c.word (cons_is _ _ _ _ d.word (cons_is _ _ _ _ k.0 refl))))),
+      record { numbers = (a.small, (b.small, (c.small, (d.small, tt)))); bytes = (k.1, k.2) },
+    ))
 paint_takes (w ∷ x ∷ y ∷ z ∷ u ∷ v ∷ ws) t h = absurd cc
 
 undo_takes : (ws : List (List ℕ)) (t : Told) → undo_at ws ≡ Some t → WordsOf ((85 ∷ []) ∷ ws) t

@@ -1,5 +1,5 @@
 -- While the lines of a text are answered: what was printed, and how much room is left.
-use Rattle.std.proofs.Common.{◌≡◌, ℕ, zero, suc, ◌+◌, ◌*◌, ◌<◌, ◌≤◌, ◌^◌, List, [], ◌∷◌, ◌++◌, length, take, drop, Some, None, Option, Ok, Err, Result, refl, sym, ap, ap₂, ◌∙◌, subst, arith, append_assoc, length-append, length-take}
+use Rattle.std.proofs.Common.{◌≡◌, ℕ, zero, suc, ◌+◌, ◌*◌, ◌<◌, ◌≤◌, List, [], ◌∷◌, ◌++◌, length, take, drop, Some, None, Option, Ok, Err, Result, refl, sym, ap, ap₂, ◌∙◌, subst, arith, append_assoc, length-append, length-take}
 use Rattle.std.specs.Prelude.{decimal, codes, IfOk}
 use Rattle.std.specs.List.{AllByRecursion, position_from}
 use Rattle.std.proofs.lemmas.List.{append-nil}
@@ -7,11 +7,10 @@ use Rattle.std.proofs.lemmas.Fmt.{length-decimal-le}
 use Rattle.refusal.specs.declared.Refusal.{Refusal}
 use Rattle.refusal.specs.declared.Refusal.TheVariants.{WrongLength, WrongMagic, WrongHeaderSize, ShortExtendedHeader, UnknownFormat, NoShape, OutOfRange, TooManyLevels, WrongEnd, NoSuchPiece, PastFileEnd, OtherLength, PieceOut, TooManyLoans, NumbersUsedUp, LoanNotOut, OtherBorrower, ForeignShelves, OutsideRow, NoSpace, NothingToUndo, OtherDocket, LoansOut, ShelfFull, PastCount, MalformedOrder, OverLimit}
 use Rattle.refusal.specs.Numbers.{number_of}
-use Rattle.loans.specs.Rules.{Deed}
 use Rattle.loans.specs.Strokes.{State}
 use Rattle.orders.specs.Replies.{reply_text, reply_to}
 use Rattle.orders.specs.Lines.{lines_of, is_end, Begins}
-use Rattle.orders.specs.Days.{answer_for, after_line, Answered, answers_for, after_lines, answer_lines, AllAnswered}
+use Rattle.orders.specs.Days.{Answered, answers_for, after_lines, answer_lines, AllAnswered}
 use Rattle.orders.proofs.Cutting.{begins_none, begins_some}
 
 -- ---- a line is short
@@ -45,13 +44,16 @@ refusal_small PastCount = omega arith
 refusal_small MalformedOrder = omega arith
 refusal_small OverLimit = omega arith
 
+pub refusal_short : (e : Refusal) → length (reply_text (reply_to (Err e))) ≤ 6
+refusal_short e =
+    let small = refusal_small e in
+    omega (arith, length-append (codes "no ") (decimal (number_of e) ++ 10 ∷ []), length-append (decimal (number_of e)) (10 ∷ []), length-decimal-le 2 (number_of e) (omega arith) (omega arith) (omega arith))
+
 -- a printed answer has at most nine bytes
 pub reply_short : (a : Result ℕ Refusal) → IfOk a (λ n. n ≤ 65535) → length (reply_text (reply_to a)) ≤ 9
 reply_short (Ok n) h =
     omega (arith, length-append (codes "ok ") (decimal n ++ 10 ∷ []), length-append (decimal n) (10 ∷ []), length-decimal-le 5 n (omega arith) (omega (arith, h)) (omega (arith, h)))
-reply_short (Err e) h =
-    let small = refusal_small e in
-    omega (arith, length-append (codes "no ") (decimal (number_of e) ++ 10 ∷ []), length-append (decimal (number_of e)) (10 ∷ []), length-decimal-le 2 (number_of e) (omega arith) (omega arith) (omega arith))
+reply_short (Err e) h = omega (arith, refusal_short e)
 
 -- ---- lines are few and short
 

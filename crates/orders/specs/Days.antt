@@ -1,11 +1,18 @@
 -- What a day's orders come to.
-use Rattle.std.specs.Prelude.{◌≡◌, ◌≢◌, ℕ, ◌+◌, ◌*◌, ◌<◌, min, Bool, true, false, ◌||◌, List, [], ◌∷◌, ◌++◌, length, take, Some, None, Option, Ok, Err, Result, nat_lt}
+use Rattle.std.specs.Prelude.{◌≡◌, ◌≢◌, ℕ, ◌+◌, ◌*◌, ◌<◌, min, Bool, ◌||◌, List, [], ◌∷◌, ◌++◌, length, take, Some, None, Option, Ok, Err, Result, nat_lt}
+use Rattle.std.specs.Bool.{MatchBool}
 use Rattle.std.specs.List.{flat_map}
 use Rattle.refusal.specs.declared.Refusal.{Refusal}
 use Rattle.refusal.specs.declared.Refusal.TheVariants.{MalformedOrder, OverLimit}
+use Rattle.formats.specs.Codes.{name_for, plain_rows}
+use Rattle.dds.specs.declared.layout.Layout.{Layout}
+use Rattle.dds.specs.Layouts.{OpenedBy}
 use Rattle.loans.specs.Stocks.{Stock}
 use Rattle.loans.specs.Strokes.{State}
-use Rattle.loans.specs.Rules.{Deed, answer_to, after}
+use Rattle.loans.specs.Rules.{Deed, answer_to, after, answers_to}
+use Rattle.loans.specs.History.{history_of}
+use Rattle.loans.specs.Law.{Law}
+use Rattle.loans.specs.Runs.{opened_state}
 use Rattle.loans.specs.Ending.{all_cancelled}
 use Rattle.orders.specs.declared.day.Ending.{Ending}
 use Rattle.orders.specs.declared.day.Ending.TheVariants.{Refused, Shipped, Scrapped}
@@ -13,6 +20,7 @@ use Rattle.orders.specs.declared.reply.Reply.{Reply}
 use Rattle.orders.specs.declared.reply.Reply.TheVariants as replies
 use Rattle.orders.specs.Spelling.{Told, IsOrder, spelling}
 use Rattle.orders.specs.Orders.{deed_for}
+use Rattle.orders.specs.Lines.{lines_of}
 use Rattle.orders.specs.Replies.{reply_text, reply_to}
 
 -- the last line that is printed
@@ -72,3 +80,69 @@ abbrev pub Closed : State → Ending → List ℕ → Type 0
 Closed s (Refused e) f = ⊥
 Closed s Shipped f = (length s.book.outs ≡ 0) × (f ≡ s.file)
 Closed s Scrapped f = (0 < length s.book.outs) × (f ≡ (all_cancelled s.book.outs s).file)
+
+-- what the program is given: the texture, the orders, and what was printed before
+pub record Given : Type 0 where
+  pub master : List ℕ
+  pub orders : List ℕ
+  pub old : List ℕ
+
+-- one of the inputs is over its limit
+abbrev pub is_over : Given → Bool
+is_over g = nat_lt 32768 (length g.master) || nat_lt 16384 (length g.orders)
+
+-- what opening the texture answers
+abbrev pub OpenedAs : Given → Result Layout Refusal → Type 0
+OpenedAs g r = OpenedBy (take 148 g.master) (length g.master) (name_for plain_rows) r
+
+-- the program's shelves at first: they have room for 64 marks and 4,096 bytes
+abbrev pub empty_stock : Stock
+empty_stock = record { marks = []; bytes = []; most_marks = 64; most_bytes = 4096 }
+
+-- the calls that lines ask for, in their order
+abbrev pub calls_in : List (Option Deed) → List Deed
+calls_in [] = []
+calls_in (None ∷ ws) = calls_in ws
+calls_in (Some d ∷ ws) = d ∷ calls_in ws
+
+-- what is answered to each line, where those are the answers to the calls
+abbrev pub answers_in : List (Option Deed) → List (Result ℕ Refusal) → List (Result ℕ Refusal)
+answers_in [] rs = []
+answers_in (None ∷ ws) rs = Err MalformedOrder ∷ answers_in ws rs
+answers_in (Some d ∷ ws) [] = []
+answers_in (Some d ∷ ws) (r ∷ rs) = r ∷ answers_in ws rs
+
+-- a day on a texture that was opened: a line is printed for each line of the orders, in their order, and one for how the day ended; the
+-- calls that the orders mean were answered by the rules, and the law holds of them, of their answers and of the file
+pub record Worked (g : Given) (ending : Ending) (file new : List ℕ) : Type 0 where
+  pub layout : Layout
+  pub opened : OpenedAs g (Ok layout)
+  pub wishes : List (Option Deed)
+  pub asked : EachAsks (lines_of g.orders) wishes
+  pub given : List (Result ℕ Refusal)
+  pub each : length given ≡ length (calls_in wishes)
+  pub by_rules : given ≡ answers_to (opened_state layout.table 1 g.master empty_stock) (calls_in wishes)
+  pub printed : new ≡ g.old ++ (answer_lines (answers_in wishes given) ++ reply_text (closing_reply ending))
+  pub end : State
+  pub law : Law layout.table 1 64 4096 g.master (history_of (calls_in wishes) given) end
+  pub closed : Closed end ending file
+
+-- where no order is carried out, one line tells why, and nothing changes
+abbrev pub TurnedAway : Given → Refusal → List ℕ → List ℕ → Type 0
+TurnedAway g e file new = (file ≡ g.master) × (new ≡ g.old ++ reply_text (replies.Refused e))
+
+-- what a day within the limits comes to
+abbrev pub Begun : Given → Ending → List ℕ → List ℕ → Type 0
+Begun g (Refused e) file new = OpenedAs g (Err e) × TurnedAway g e file new
+Begun g Shipped file new = Worked g Shipped file new
+Begun g Scrapped file new = Worked g Scrapped file new
+
+-- the most that is printed: nine bytes for each byte of the orders, and the last line
+abbrev pub room_for : List ℕ → ℕ
+room_for orders = 9 * min (length orders) 16384 + 6
+
+-- what a day comes to: want of memory comes only where the Vec's capacity was too small, and nothing changes then
+abbrev pub DayDone : {E : Type 0} → Given → ℕ → ℕ → Result Ending E → List ℕ → List ℕ → Type 0
+DayDone g len room (Ok ending) file new =
+    MatchBool (is_over g) ((ending ≡ Refused OverLimit) × TurnedAway g OverLimit file new) (Begun g ending file new)
+DayDone g len room (Err e) file new = (room < len + room_for g.orders) × (file ≡ g.master) × (new ≡ g.old)

@@ -1,18 +1,34 @@
 // A day's orders, from the texture and their text to what is printed and whether the texture ships.
-ghost use Rattle.std.specs.Prelude.{◌≡◌, ◌+◌, ◌*◌, ◌≤◌, ◌++◌, Some, IfOk, length, vec_len, vec_capacity};
+ghost use Rattle.std.specs.Prelude.{◌≡◌, ◌+◌, ◌*◌, ◌≤◌, ◌++◌, Some, Err, IfOk, length, vec_len, vec_capacity};
 ghost use Rattle.loans.specs.Jobs.{book_of};
 ghost use Rattle.loans.specs.Stocks.{stock_of};
 ghost use Rattle.loans.specs.Strokes.{state_of};
 ghost use Rattle.loans.specs.Scrapping.{AtHome};
 ghost use Rattle.orders.specs.Lines.{lines_of};
-ghost use Rattle.orders.specs.Replies.{reply_text};
-ghost use Rattle.orders.specs.Days.{closing_reply, Answered, AllAnswered, Closed};
+ghost use Rattle.orders.specs.Replies.{reply_text, reply_to};
+ghost use Rattle.orders.specs.declared.day.Ending.TheVariants.{Refused};
+ghost use Rattle.orders.specs.Days.{closing_reply, Answered, AllAnswered, Closed, Begun, DayDone};
 
 use crate::lines::Lines;
 use crate::order::Order;
 use crate::reply::Reply;
-use loans::{Answer, Docket, Job, Shelves, Unspent, scrap, ship};
+use formats::BuiltInCodes;
+use loans::{Answer, Docket, Job, Mark, Shelves, Unspent, scrap, ship};
 use refusal::Refusal;
+use shelf::Shelf;
+use std::alloc::AllocError;
+
+// How many bytes a texture and the orders of a day can have.
+pub const MOST_MASTER: usize = 32768;
+
+pub const MOST_ORDERS: usize = 16384;
+
+const JOB_NUMBER: u32 = 1;
+
+// How many bytes the line of an answer can have, and the last line.
+const LONGEST_ANSWER: usize = 9;
+
+const LONGEST_ENDING: usize = 6;
 
 // How a day ends: the texture is not opened, or all loans were handed in and it ships, or it does not.
 #[derive(Clone, Copy, PartialEq, Eq, Debug)]
@@ -90,4 +106,50 @@ fn close(docket: Docket, job: &mut Job, file: &mut [u8], shelves: &mut Shelves<'
             Ending::Scrapped
         }
     }
+}
+
+// One line tells why no order is carried out.
+fn refuse(printed: &mut Vec<u8>, refusal: Refusal) -> Ending
+    requires { vec_len printed.old + 6 ≤ vec_capacity printed.old }
+    ensures ending { result ≡ Refused refusal }
+    ensures printed { printed.new.items ≡ printed.old.items ++ reply_text (reply_to (Err refusal)) }
+{
+    print(printed, Reply::Refused(refusal));
+    Ending::Refused(refusal)
+}
+
+// A day within the limits.
+fn work(master: &mut [u8], orders: &[u8], printed: &mut Vec<u8>) -> Ending
+    requires short { length orders.now ≤ 16384 }
+    requires room { vec_len printed.old + (9 * length orders.now + 6) ≤ vec_capacity printed.old }
+    ensures { Begun (record { master = master.old; orders = orders.now; old = printed.old.items }) result master.new printed.new.items }
+{
+    let mut marks = [Mark::default(); 64];
+    let mut bytes = [0; 4096];
+    let mut shelves = Shelves::of(Shelf::new(&mut marks), Shelf::new(&mut bytes));
+    let mut job = Job::empty();
+    let docket = match job.open(master, JOB_NUMBER, &BuiltInCodes) {
+        Ok(docket) => docket,
+        Err(refusal) => return refuse(printed, refusal),
+    };
+    answer_all(&mut job, master, &mut shelves, orders, printed);
+    let ending = close(docket, &mut job, master, &mut shelves);
+    print(printed, Reply::from(ending));
+    ending
+}
+
+// Carries out a day's orders on a texture, in place, and prints behind what stands in the Vec. Where there is no memory for what is to be
+// printed, nothing changes.
+pub fn run_day(
+    master: &mut [u8],
+    orders: &[u8],
+    printed: &mut Vec<u8>,
+) -> Result<Ending, AllocError>
+    ensures { DayDone (record { master = master.old; orders = orders.now; old = printed.old.items }) (vec_len printed.old) (vec_capacity printed.old) result master.new printed.new.items }
+{
+    printed.reserve(LONGEST_ANSWER * orders.len().min(MOST_ORDERS) + LONGEST_ENDING)?;
+    if master.len() > MOST_MASTER || orders.len() > MOST_ORDERS {
+        return Ok(refuse(printed, Refusal::OverLimit));
+    }
+    Ok(work(master, orders, printed))
 }

@@ -25,7 +25,11 @@ fn nibble(digit: u8) -> u8
     ensures value { result ≡ nibble digit }
     ensures small { result < 16 }
 {
-    if digit < b'a' { digit - b'0' } else { digit - b'a' + 10 }
+    if digit < b'a' {
+        digit - b'0'
+    } else {
+        digit - b'a' + 10
+    }
 }
 
 fn are_hex(text: &[u8]) -> bool

@@ -8,7 +8,7 @@ mod number;
 mod order;
 mod reply;
 
-pub use day::Ending;
+pub use day::{Ending, MOST_MASTER, MOST_ORDERS, run_day};
 pub use digits::Digits;
 pub use order::Order;
 pub use reply::Reply;

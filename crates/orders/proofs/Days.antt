@@ -1,0 +1,116 @@
+-- A day on a texture that was opened.
+use Rattle.std.proofs.Common.{◌≡◌, ℕ, min, List, [], ◌∷◌, ◌++◌, length, take, Some, None, Option, Ok, Err, Result, refl, sym, ap, ◌∙◌, subst, append_assoc}
+use Rattle.refusal.specs.declared.Refusal.{Refusal}
+use Rattle.refusal.specs.declared.Refusal.TheVariants.{MalformedOrder}
+use Rattle.formats.specs.declared.kinds.FormatName.{FormatName}
+use Rattle.formats.specs.Codes.{name_for, plain_rows}
+use Rattle.dds.specs.declared.header.Header.{Header}
+use Rattle.dds.specs.declared.layout.Layout.{Layout}
+use Rattle.dds.specs.Headers.{header_read, header_name}
+use Rattle.dds.specs.Layouts.{OpenedIn, OpenedBy}
+use Rattle.dds.specs.Layouts as layouts
+use Rattle.shelf.specs.declared.Shelf.{Shelf}
+use Rattle.shelf.specs.Calls.{New}
+use Rattle.loans.specs.declared.mark.Mark.{Mark}
+use Rattle.shelf.specs.Model.{contents, capacity_of}
+use Rattle.loans.specs.declared.job.Job.{Job}
+use Rattle.loans.specs.declared.mark.Shelves.{Shelves}
+use Rattle.loans.specs.Jobs.{book_of, fresh_book}
+use Rattle.loans.specs.Strokes.{State, state_of}
+use Rattle.loans.specs.Rules.{Deed, answer_to, after, answers_to, after_all}
+use Rattle.loans.specs.History.{history_of}
+use Rattle.loans.specs.Law.{Law}
+use Rattle.loans.specs.Runs.{opened_state}
+use Rattle.loans.specs.Scrapping.{AtHome}
+use Rattle.loans.proofs.Calls.{answers_to_length}
+use Rattle.loans.proofs.Runs.{law_run, ours_run}
+use Rattle.orders.specs.declared.day.Ending.{Ending}
+use Rattle.orders.specs.declared.day.Ending.TheVariants.{Refused, Shipped, Scrapped}
+use Rattle.orders.specs.Lines.{lines_of}
+use Rattle.orders.specs.Replies.{reply_text}
+use Rattle.orders.specs.Days.{Given, OpenedAs, empty_stock, answers_for, after_lines, answer_lines, AllAnswered, Closed, closing_reply, calls_in, answers_in, Worked, Begun}
+
+-- a layout has its file's length
+by_name : (head : List ℕ) (n : ℕ) (name : Option FormatName) (y : Layout) → layouts.OpenedAs head n name (Ok y) → y.table.length ≡ n
+by_name head n None y h = absurd cc
+by_name head n (Some name) y h = h.table.length
+
+by_header : (head : List ℕ) (n : ℕ) (names : ℕ → Option FormatName) (r : Result Header Refusal) (y : Layout) → OpenedIn head n names r (Ok y) → y.table.length ≡ n
+by_header head n names (Err e) y h = absurd cc
+by_header head n names (Ok header) y h = by_name head n (header_name names header) y h
+
+opened_length : (head : List ℕ) (n : ℕ) (names : ℕ → Option FormatName) (y : Layout) → OpenedBy head n names (Ok y) → y.table.length ≡ n
+opened_length head n names y h = by_header head n names (header_read head n) y h
+
+-- lines are answered as the calls that they ask for
+left_by_calls : (s : State) (ws : List (Option Deed)) → after_lines s ws ≡ after_all s (calls_in ws)
+left_by_calls s [] = refl
+left_by_calls s (None ∷ ws) = left_by_calls s ws
+left_by_calls s (Some d ∷ ws) = left_by_calls (after s d) ws
+
+answered_by_calls : (s : State) (ws : List (Option Deed)) → answers_for s ws ≡ answers_in ws (answers_to s (calls_in ws))
+answered_by_calls s [] = refl
+answered_by_calls s (None ∷ ws) = ap (λ rs. Err MalformedOrder ∷ rs) (answered_by_calls s ws)
+answered_by_calls s (Some d ∷ ws) = ap (λ rs. answer_to s d ∷ rs) (answered_by_calls (after s d) ws)
+
+-- the program's job and shelves, just opened
+pub first_state : (g : Given) (j : Job) (v : Shelves) (marks : Shelf Mark) (bytes : Shelf ℕ) (lent_marks : List Mark) (lent_bytes : List ℕ) → book_of j ≡ fresh_book j.layout.table (Some 1)
+    → v.marks ≡ marks → v.bytes ≡ bytes → New lent_marks marks → New lent_bytes bytes → length lent_marks ≡ 64 → length lent_bytes ≡ 4096
+    → state_of j g.master v ≡ opened_state j.layout.table 1 g.master empty_stock
+first_state g j v marks bytes lent_marks lent_bytes book a b m n few_marks few_bytes =
+    let e = ap contents a ∙ m.holds in
+    let f = ap contents b ∙ n.holds in
+    let h : capacity_of v.marks ≡ 64 = ap capacity_of a ∙ m.capacity ∙ ap (λ k. min k 1073741824) few_marks in
+    let k : capacity_of v.bytes ≡ 4096 = ap capacity_of b ∙ n.capacity ∙ ap (λ k. min k 1073741824) few_bytes in
+    λ i. record { book = book i; file = g.master; stock = record { marks = e i; bytes = f i; most_marks = h i; most_bytes = k i } }
+
+module _ (g : Given) (y : Layout) (opened : OpenedAs g (Ok y)) where
+  abbrev first : State
+  first = opened_state y.table 1 g.master empty_stock
+
+  sized : length g.master ≡ y.table.length
+  sized = sym (opened_length (take 148 g.master) (length g.master) (name_for plain_rows) y opened)
+
+  module _ (s₀ s : State) (new : List ℕ) (same : s₀ ≡ first) (all : AllAnswered (lines_of g.orders) s₀ g.old s new) where
+    abbrev calls : List Deed
+    calls = calls_in all.wishes
+
+    end : s ≡ after_all first calls
+    end = all.left ∙ left_by_calls s₀ all.wishes ∙ ap (λ (x : State). after_all x calls) same
+
+    law : Law y.table 1 64 4096 g.master (history_of calls (answers_to first calls)) s
+    law = subst (Law y.table 1 64 4096 g.master (history_of calls (answers_to first calls))) (sym end) (law_run y 1 g.master empty_stock calls sized refl refl)
+
+    pub numbered : s.book.number ≡ Some 1
+    numbered = ap (λ (x : State). x.book.number) law.state
+
+    pub at_home : AtHome s
+    at_home =
+        let ours = ours_run y 1 g.master empty_stock calls sized refl refl in
+        subst AtHome (sym end) (record {
+          sized = ours.1 ∙ sym (ap (λ (x : State). x.book.table.length) (sym end ∙ law.state));
+          ours = ours.0;
+        })
+
+    worked : (ending : Ending) (file new' : List ℕ) → Closed s ending file → new' ≡ new ++ reply_text (closing_reply ending) → Worked g ending file new'
+    worked ending file new' closed printed = record {
+      layout = y;
+      opened = opened;
+      wishes = all.wishes;
+      asked = all.asked;
+      given = answers_to first calls;
+      each = answers_to_length first calls;
+      by_rules = refl;
+      printed =
+          printed
+          ∙ ap (λ xs. xs ++ reply_text (closing_reply ending)) (all.printed ∙ ap (λ rs. g.old ++ answer_lines rs) (ap (λ (x : State). answers_for x all.wishes) same ∙ answered_by_calls first all.wishes))
+          ∙ append_assoc g.old _ _;
+      end = s;
+      law = law;
+      closed = closed;
+    }
+
+    pub begun : (ending : Ending) (file new' : List ℕ) → Closed s ending file → new' ≡ new ++ reply_text (closing_reply ending) → Begun g ending file new'
+    begun (Refused e) file new' closed printed = absurd closed
+    begun Shipped file new' closed printed = worked Shipped file new' closed printed
+    begun Scrapped file new' closed printed = worked Scrapped file new' closed printed

@@ -1,0 +1,6 @@
+use Rattle.std.proofs.Common.{arith}
+use Rattle.orders.proofs.Working.{refusal_short}
+use Rattle.orders.proofs.day.refuse.Goals as goal
+
+pub print-requires : goal.print-requires
+print-requires c = omega (arith, c.requires, refusal_short c.args.refusal)
