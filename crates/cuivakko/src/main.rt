@@ -1,0 +1,118 @@
+// The order program: carries out the orders on standard input on master.dds, prints an answer for each, and ships the texture.
+#![tactic(auto)]
+
+use orders::{Ending, MOST_MASTER, MOST_ORDERS, Reply, run_day};
+use std::alloc::AllocError;
+use std::fs::File;
+use std::io::{ErrorKind, Read, Write};
+use std::process::ExitCode;
+use std::{env, fs, io};
+use thiserror::Error;
+
+const MASTER: &str = "master.dds";
+
+const SHIPPED: &str = "shipped.dds";
+
+// The shipped file is written under this name first.
+const PART: &str = "shipped.dds.part";
+
+const USAGE: &str =
+    "usage: cuivakko < ORDERS    carries out orders on master.dds, which stays as it is
+
+Prints a line for each order, 'ok' and a number or 'no' and a refusal's number. In
+the end it writes shipped.dds and prints 'ship', or, where a loan is still out, it
+writes nothing and prints 'scrap'. docs/ORDERS.md explains the orders.
+
+  L ELEMENT LEVEL SLICE BORROWER       lends a piece, and answers the loan's number
+  L ELEMENT BORROWER                   lends an element's first piece
+  P LOAN BORROWER ROW FIRST DIGITS     paints bytes, two hex digits each
+  U LOAN BORROWER                      takes the loan's newest stroke back
+  K LOAN                               ends the loan, its strokes stand for good
+  C LOAN                               takes all of the loan's strokes back, and ends it";
+
+// What stopped the program.
+#[derive(Debug, Drop, Error)]
+enum Fault {
+    #[error("master.dds cannot be read: {0}")]
+    Master(io::Error),
+    #[error("the orders cannot be read: {0}")]
+    Orders(io::Error),
+    #[error("out of memory")]
+    Memory(#[from] AllocError),
+    #[error("the answers cannot be printed: {0}")]
+    Output(io::Error),
+    #[error("shipped.dds was not written: {0}")]
+    Shipped(io::Error),
+}
+
+// Reads no more than the limit and one byte, which tells that the limit is passed.
+fn read_up_to<R: Read + Drop>(rt: &HostRuntime, reader: R, limit: usize) -> io::Result<Vec<u8>> {
+    let mut bytes = Vec::new(rt.alloc());
+    reader
+        .take((limit as u64).saturating_add(1))
+        .read_to_end(&mut bytes)?;
+    Ok(bytes)
+}
+
+// A texture that is absent counts as an empty one.
+fn read_master(rt: &HostRuntime) -> io::Result<Vec<u8>> {
+    match File::open(rt, MASTER) {
+        Ok(file) => read_up_to(rt, file, MOST_MASTER),
+        Err(error) if error.kind() == ErrorKind::NotFound => Ok(Vec::new(rt.alloc())),
+        Err(error) => Err(error),
+    }
+}
+
+// Whole or not at all.
+fn write_shipped(rt: &HostRuntime, bytes: &[u8]) -> io::Result<()> {
+    let mut part = File::create(rt, PART)?;
+    let written = part
+        .write_all(bytes)
+        .and_then(|()| fs::rename(rt, PART, SHIPPED));
+    if written.is_err() {
+        let _ = fs::remove_file(rt, PART);
+    }
+    written
+}
+
+fn print(rt: &HostRuntime, lines: &[u8]) -> Result<(), Fault> {
+    let mut out = rt.stdout();
+    out.write_all(lines)
+        .and_then(|()| out.flush())
+        .map_err(Fault::Output)
+}
+
+// The last line is printed when the file stands.
+fn run(rt: &HostRuntime) -> Result<(), Fault> {
+    let mut master = read_master(rt).map_err(Fault::Master)?;
+    let orders = read_up_to(rt, rt.stdin(), MOST_ORDERS).map_err(Fault::Orders)?;
+    let mut printed = Vec::new(rt.alloc());
+    let ending = run_day(&mut master, &orders, &mut printed)?;
+    if ending != Ending::Shipped {
+        return print(rt, &printed);
+    }
+    let last = Reply::from(ending).line();
+    let (answers, _) = printed.split_at(printed.len().saturating_sub(last.len()));
+    print(rt, answers)?;
+    write_shipped(rt, &master).map_err(Fault::Shipped)?;
+    print(rt, last.as_str().as_bytes())
+}
+
+fn main(rt: HostRuntime) -> io::Result<ExitCode> {
+    let args: Vec<String> = env::args(&rt)?.skip(1).collect(rt.alloc())?;
+    if let Some(arg) = args.first() {
+        if arg.as_str() == "--help" {
+            println!(rt; "{USAGE}")?;
+            return Ok(ExitCode::SUCCESS);
+        }
+        eprintln!(rt; "{USAGE}")?;
+        return Ok(ExitCode::FAILURE);
+    }
+    match run(&rt) {
+        Ok(()) => Ok(ExitCode::SUCCESS),
+        Err(fault) => {
+            eprintln!(rt; "cuivakko: {fault}")?;
+            Ok(ExitCode::FAILURE)
+        }
+    }
+}
