@@ -38,8 +38,8 @@ pub order_fits : (line : List ℕ) (o : Order) → line ≡ spelling (told o) �
 order_fits line (Loan p who) e h = tt
 order_fits line (LoanElement x who) e h = tt
 order_fits line (Paint n who r f ds) e h =
-    let p : Painting = record { loan = n; borrower = who; row = r; first = f; laid = bytes_of ds.text.now } in
-    omega (arith, h, ap length e, ap length (pairs_again ds.text.now ds.pairs), last_within ((letter (paint p) ∷ []) ∷ map decimal (numbers (paint p))) (flat_map hex_pair p.laid))
+    let p : Painting = record { loan = n; borrower = who; row = r; first = f; laid = bytes_of ds.digits.now } in
+    omega (arith, h, ap length e, ap length (pairs_again ds.digits.now ds.pairs), last_within ((letter (paint p) ∷ []) ∷ map decimal (numbers (paint p))) (flat_map hex_pair p.laid))
 order_fits line (Undo n who) e h = tt
 order_fits line (Keep n) e h = tt
 order_fits line (Cancel n) e h = tt

@@ -32,7 +32,7 @@ deed_for (cancel n) = calls.cancel n
 abbrev pub Fits : Order → Type 0
 Fits (Loan p who) = Unit {0}
 Fits (LoanElement e who) = Unit {0}
-Fits (Paint n who r f ds) = length ds.text.now ≤ 16384
+Fits (Paint n who r f ds) = length ds.digits.now ≤ 16384
 Fits (Undo n who) = Unit {0}
 Fits (Keep n) = Unit {0}
 Fits (Cancel n) = Unit {0}

@@ -14,7 +14,7 @@ abbrev pub told : Order → Told
 told (Loan p who) = lend p who
 told (LoanElement e who) = lend_element e who
 told (Paint n who row' first' ds) =
-    paint (record { loan = n; borrower = who; row = row'; first = first'; laid = bytes_of ds.text.now })
+    paint (record { loan = n; borrower = who; row = row'; first = first'; laid = bytes_of ds.digits.now })
 told (Undo n who) = undo n who
 told (Keep n) = keep n
 told (Cancel n) = cancel n

@@ -99,13 +99,11 @@ fn close(docket: Docket, job: &mut Job, file: &mut [u8], shelves: &mut Shelves<'
     requires home { AtHome (state_of job.old file.old shelves.old) }
     ensures { Closed (state_of job.old file.old shelves.old) result file.new }
 {
-    match ship(docket, job) {
-        Ok(_) => Ending::Shipped,
-        Err(Unspent { docket, refusal: _ }) => {
-            let _ = scrap(docket, job, file, shelves);
-            Ending::Scrapped
-        }
+    if let Err(Unspent { docket, refusal: _ }) = ship(docket, job) {
+        let _ = scrap(docket, job, file, shelves);
+        return Ending::Scrapped;
     }
+    Ending::Shipped
 }
 
 // One line tells why no order is carried out.
