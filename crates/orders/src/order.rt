@@ -138,6 +138,7 @@ impl<'a> Order<'a> {
     }
 
     // The order that a line tells. Refuses with MalformedOrder where it tells none.
+    #[tactic(auto, using(crate::proofs::Spelled::parsed))]
     pub fn parse(line: &'a [u8]) -> Result<Order<'a>, Refusal>
         ensures line { Parsed line.now result }
         ensures unique { EachLineIsOneOrder }
