@@ -3,7 +3,9 @@
 
 SAMPLES = crates/samples/data
 
-demo: target/bin/pieces target/bin/retouch
+demo: target/bin/cuivakko target/bin/pieces target/bin/retouch
+	@tools/show_day.sh target/bin/cuivakko crates/cuivakko/data/master.dds crates/cuivakko/stdin
+	@tools/show_day.sh target/bin/cuivakko crates/busy_day/data/master.dds crates/busy_day/data/orders.txt
 	@for file in $(SAMPLES)/*.dds; do echo "$$file"; target/bin/pieces $$file || exit 1; done
 	@target/bin/retouch $(SAMPLES)/cube-rgb.dds
 

@@ -19,9 +19,9 @@ use Rattle.orders.specs.declared.order.Order.TheVariants.{Loan, LoanElement, Pai
 use Rattle.orders.specs.Spelling.{letter, numbers, hex_pair, spelling}
 use Rattle.orders.specs.Spelling.Told.{paint}
 use Rattle.orders.specs.Words.{bytes_of}
-use Rattle.orders.specs.Reading.{told}
+use Rattle.orders.specs.Reading.{as_told}
 use Rattle.orders.specs.Orders.{Fits}
-use Rattle.orders.specs.Days.{after_line, Answered}
+use Rattle.orders.specs.Steps.{after_line, Answered}
 use Rattle.orders.proofs.Hex.{pairs_again}
 
 out_few : (j : Job) → length (outs j.ledger) ≤ 32
@@ -34,7 +34,7 @@ last_within (x ∷ []) w = omega (arith, length-append x (32 ∷ w))
 last_within (x ∷ y ∷ ws) w = omega (arith, last_within (y ∷ ws) w, length-append x (32 ∷ join_with_byte 32 (y ∷ ws ++ w ∷ [])))
 
 -- the digits of an order that a line tells are no longer than the line
-pub order_fits : (line : List ℕ) (o : Order) → line ≡ spelling (told o) → length line ≤ 16384 → Fits o
+pub order_fits : (line : List ℕ) (o : Order) → line ≡ spelling (as_told o) → length line ≤ 16384 → Fits o
 order_fits line (Loan p who) e h = tt
 order_fits line (LoanElement x who) e h = tt
 order_fits line (Paint n who r f ds) e h =

@@ -28,7 +28,8 @@ use Rattle.orders.specs.declared.day.Ending.{Ending}
 use Rattle.orders.specs.declared.day.Ending.TheVariants.{Refused, Shipped, Scrapped}
 use Rattle.orders.specs.Lines.{lines_of}
 use Rattle.orders.specs.Replies.{reply_text}
-use Rattle.orders.specs.Days.{Given, OpenedAs, empty_stock, answers_for, after_lines, answer_lines, AllAnswered, Closed, closing_reply, calls_in, answers_in, Worked, Begun}
+use Rattle.orders.specs.Days.{Given, OpenedAs, empty_stock, answer_lines, Closed, closing_reply, calls_in, answers_in, Worked, Begun}
+use Rattle.orders.specs.Steps.{answers_for, after_lines, AllAnswered}
 
 -- a layout has its file's length
 by_name : (head : List ℕ) (n : ℕ) (name : Option FormatName) (y : Layout) → layouts.OpenedAs head n name (Ok y) → y.table.length ≡ n

@@ -14,7 +14,7 @@ use Rattle.refusal.specs.declared.Refusal.TheVariants.{MalformedOrder}
 use Rattle.orders.specs.declared.order.Order.{Order}
 use Rattle.orders.specs.Orders.{Parsed}
 use Rattle.orders.specs.Words.{value_at, bytes_at, is_hex}
-use Rattle.orders.specs.Reading.{is_space, loan_at, paint_at, undo_at, only_at, with_number, order_of, by_words, order_at, told}
+use Rattle.orders.specs.Reading.{is_space, loan_at, paint_at, undo_at, only_at, with_number, order_of, by_words, order_at, as_told}
 use Rattle.orders.proofs.Numbers.{value_again, value_takes, decimal_digits}
 use Rattle.orders.proofs.Hex.{bytes_again, bytes_takes, all_hex}
 
@@ -203,9 +203,9 @@ pub one_order : (a b : Told) → IsOrder a → IsOrder b → spelling a ≡ spel
 one_order a b h k e = some_is a b (sym (order_again a h) ∙ ap order_at e ∙ order_again b k)
 
 -- what parsing answers
-pub parsed : (line : List ℕ) (o : Option Order) → option_map told o ≡ order_at line → Parsed line (ok_or o MalformedOrder)
+pub parsed : (line : List ℕ) (o : Option Order) → option_map as_told o ≡ order_at line → Parsed line (ok_or o MalformedOrder)
 parsed line None e = (refl, λ t h same. none (e ∙ ap order_at same ∙ order_again t h))
   where
     none : {t : Told} → None ≡ done t → ⊥
     none e = absurd cc
-parsed line (Some o) e = order_takes line (told o) (sym e)
+parsed line (Some o) e = order_takes line (as_told o) (sym e)

@@ -10,7 +10,8 @@ use Rattle.refusal.specs.Numbers.{number_of}
 use Rattle.loans.specs.Strokes.{State}
 use Rattle.orders.specs.Replies.{reply_text, reply_to}
 use Rattle.orders.specs.Lines.{lines_of, is_end, Begins}
-use Rattle.orders.specs.Days.{Answered, answers_for, after_lines, answer_lines, AllAnswered}
+use Rattle.orders.specs.Days.{answer_lines}
+use Rattle.orders.specs.Steps.{Answered, answers_for, after_lines, AllAnswered}
 use Rattle.orders.proofs.Cutting.{begins_none, begins_some}
 
 -- ---- a line is short

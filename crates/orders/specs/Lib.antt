@@ -5,3 +5,4 @@ pub mod Orders
 pub mod Replies
 pub mod Lines
 pub mod Days
+pub mod Steps

@@ -1,6 +1,5 @@
 -- The lines of a text.
 use Rattle.std.specs.Prelude.{◌≡◌, ℕ, ◌<◌, Bool, cond, List, [], ◌∷◌, length, ◌==◌}
-use Rattle.std.specs.Borrow.{Bor}
 use Rattle.std.specs.List.{slice_split}
 use Rattle.orders.specs.declared.lines.Lines.{Lines}
 
@@ -20,9 +19,6 @@ lines_of text = less_empty_end (slice_split is_end text)
 -- what is left of lines that are read one after the other
 abbrev pub lines_left : Lines → List (List ℕ)
 lines_left ls = lines_of ls.rest.now
-
-abbrev pub now_of : Bor (List ℕ) → List ℕ
-now_of l = l.now
 
 -- a text begins with a line, if it is not empty
 abbrev pub Begins : List ℕ → List ℕ → List ℕ → Type 0

@@ -8,11 +8,11 @@ use Rattle.orders.specs.declared.order.Order.{Order}
 use Rattle.orders.specs.declared.order.Order.TheVariants.{Loan, LoanElement, Paint, Undo, Keep, Cancel}
 use Rattle.orders.specs.Spelling.{Told, IsOrder, spelling}
 use Rattle.orders.specs.Spelling.Told.{lend, lend_element, paint, undo, keep, cancel}
-use Rattle.orders.specs.Reading.{told}
+use Rattle.orders.specs.Reading.{as_told}
 
 -- a line that is accepted spells the order; a malformed one spells none
 abbrev pub Parsed : List ℕ → Result Order Refusal → Type 0
-Parsed line (Ok o) = (line ≡ spelling (told o)) × IsOrder (told o)
+Parsed line (Ok o) = (line ≡ spelling (as_told o)) × IsOrder (as_told o)
 Parsed line (Err e) = (e ≡ MalformedOrder) × ((t : Told) → IsOrder t → line ≢ spelling t)
 
 -- no line spells two orders

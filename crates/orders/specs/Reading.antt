@@ -1,6 +1,5 @@
 -- How a line is read, word by word.
 use Rattle.std.specs.Prelude.{ℕ, Bool, cond, List, [], ◌∷◌, Some, None, Option, ◌==◌}
-use Rattle.std.specs.Borrow.{Bor}
 use Rattle.std.specs.List.{slice_split}
 use Rattle.std.specs.Option.{option_map, option_and_then}
 use Rattle.orders.specs.declared.order.Order.{Order}
@@ -10,17 +9,14 @@ use Rattle.orders.specs.Spelling.Told.{lend, lend_element, paint, undo, keep, ca
 use Rattle.orders.specs.Words.{value_at, bytes_of, bytes_at}
 
 -- the order that a value of the code is
-abbrev pub told : Order → Told
-told (Loan p who) = lend p who
-told (LoanElement e who) = lend_element e who
-told (Paint n who row' first' ds) =
+abbrev pub as_told : Order → Told
+as_told (Loan p who) = lend p who
+as_told (LoanElement e who) = lend_element e who
+as_told (Paint n who row' first' ds) =
     paint (record { loan = n; borrower = who; row = row'; first = first'; laid = bytes_of ds.digits.now })
-told (Undo n who) = undo n who
-told (Keep n) = keep n
-told (Cancel n) = cancel n
-
-abbrev pub words_of : Bor (List ℕ) → List ℕ
-words_of word = word.now
+as_told (Undo n who) = undo n who
+as_told (Keep n) = keep n
+as_told (Cancel n) = cancel n
 
 abbrev pub is_space : ℕ → Bool
 is_space b = b == 32

@@ -1,5 +1,6 @@
 -- What the words of a line spell: decimal numbers and hex digits.
 use Rattle.std.specs.Prelude.{ℕ, ◌+◌, ◌-◌, ◌*◌, ◌%◌, ◌^◌, Bool, true, false, ◌&&◌, ◌||◌, not, cond, List, [], ◌∷◌, length, Some, None, Option, nat_le, nat_lt, ◌==◌}
+use Rattle.std.specs.Borrow.{Bor}
 use Rattle.std.specs.List.{list_all}
 use Rattle.std.specs.Char.{is_ascii_digit}
 use Rattle.std.specs.Str.Parse.{digits_value}
@@ -36,3 +37,7 @@ bytes_of (h ∷ l ∷ ds) = (nibble h * 16 + nibble l) ∷ bytes_of ds
 
 abbrev pub bytes_at : List ℕ → Option (List ℕ)
 bytes_at ds = cond (are_pairs ds) (Some (bytes_of ds)) None
+
+-- the bytes of a part of a text, which stay in the text
+abbrev pub now_of : Bor (List ℕ) → List ℕ
+now_of part = part.now

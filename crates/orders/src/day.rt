@@ -7,7 +7,8 @@ ghost use Rattle.loans.specs.Scrapping.{AtHome};
 ghost use Rattle.orders.specs.Lines.{lines_of};
 ghost use Rattle.orders.specs.Replies.{reply_text, reply_to};
 ghost use Rattle.orders.specs.declared.day.Ending.TheVariants.{Refused};
-ghost use Rattle.orders.specs.Days.{closing_reply, Answered, AllAnswered, Closed, Begun, DayDone};
+ghost use Rattle.orders.specs.Days.{closing_reply, Closed, Begun, DayDone};
+ghost use Rattle.orders.specs.Steps.{Answered, AllAnswered};
 
 use crate::lines::Lines;
 use crate::order::Order;

@@ -1,7 +1,8 @@
 // The lines of a text.
 ghost use Rattle.std.specs.Prelude.{◌≡◌};
 ghost use Rattle.std.specs.Iterator.{YieldsFirstBy, item_count};
-ghost use Rattle.orders.specs.Lines.{lines_of, lines_left, now_of, Begins};
+ghost use Rattle.orders.specs.Lines.{lines_of, lines_left, Begins};
+ghost use Rattle.orders.specs.Words.{now_of};
 
 // Byte 0A ends a line. The last line may do without it, and behind a last 0A there is none.
 #[derive(Drop)]

@@ -2,7 +2,8 @@
 ghost use Rattle.std.specs.Prelude.{◌≡◌, ◌<◌, map, length, MatchOption};
 ghost use Rattle.std.specs.List.{slice_split};
 ghost use Rattle.std.specs.Option.{option_map};
-ghost use Rattle.orders.specs.Reading.{is_space, told, loan_at, paint_at, undo_at, only_at, order_of, words_of, order_at};
+ghost use Rattle.orders.specs.Reading.{is_space, as_told, loan_at, paint_at, undo_at, only_at, order_of, order_at};
+ghost use Rattle.orders.specs.Words.{now_of};
 ghost use Rattle.orders.specs.Orders.{Parsed, EachLineIsOneOrder, Fits, deed_for};
 ghost use Rattle.loans.specs.Calls.{Called};
 
@@ -45,7 +46,7 @@ pub enum Order<'a> {
 }
 
 fn loan<'a>(fields: &[&'a [u8]]) -> Option<Order<'a>>
-    ensures { option_map told result ≡ loan_at (map words_of fields.now) }
+    ensures { option_map as_told result ≡ loan_at (map now_of fields.now) }
 {
     match fields {
         [element, level, slice, borrower] => Some(Order::Loan {
@@ -65,7 +66,7 @@ fn loan<'a>(fields: &[&'a [u8]]) -> Option<Order<'a>>
 }
 
 fn paint<'a>(fields: &[&'a [u8]]) -> Option<Order<'a>>
-    ensures { option_map told result ≡ paint_at (map words_of fields.now) }
+    ensures { option_map as_told result ≡ paint_at (map now_of fields.now) }
 {
     let [loan, borrower, row, first, digits] = fields else {
         return None;
@@ -80,7 +81,7 @@ fn paint<'a>(fields: &[&'a [u8]]) -> Option<Order<'a>>
 }
 
 fn undo<'a>(fields: &[&'a [u8]]) -> Option<Order<'a>>
-    ensures { option_map told result ≡ undo_at (map words_of fields.now) }
+    ensures { option_map as_told result ≡ undo_at (map now_of fields.now) }
 {
     let [loan, borrower] = fields else {
         return None;
@@ -93,7 +94,7 @@ fn undo<'a>(fields: &[&'a [u8]]) -> Option<Order<'a>>
 
 // The number of a line that has only one.
 fn only(fields: &[&[u8]]) -> Option<u32>
-    ensures { result ≡ only_at (map words_of fields.now) }
+    ensures { result ≡ only_at (map now_of fields.now) }
 {
     let [loan] = fields else {
         return None;
@@ -102,7 +103,7 @@ fn only(fields: &[&[u8]]) -> Option<u32>
 }
 
 fn order_for<'a>(letter: char, fields: &[&'a [u8]]) -> Option<Order<'a>>
-    ensures { option_map told result ≡ order_of letter (map words_of fields.now) }
+    ensures { option_map as_told result ≡ order_of letter (map now_of fields.now) }
 {
     match letter {
         'L' => loan(fields),
@@ -120,7 +121,7 @@ fn order_for<'a>(letter: char, fields: &[&'a [u8]]) -> Option<Order<'a>>
 
 // What stands between the spaces of a line; none where that is more than any order has.
 fn words(line: &[u8]) -> Option<ArrayVec<&[u8], 6>>
-    ensures { MatchOption result (6 < length (slice_split is_space line.now)) (λ words. map words_of words.items ≡ slice_split is_space line.now) }
+    ensures { MatchOption result (6 < length (slice_split is_space line.now)) (λ words. map now_of words.items ≡ slice_split is_space line.now) }
 {
     let mut words = ArrayVec::new();
     words.extend(line.split(|byte| *byte == b' ')).ok()?;
@@ -129,7 +130,7 @@ fn words(line: &[u8]) -> Option<ArrayVec<&[u8], 6>>
 
 impl<'a> Order<'a> {
     fn read(line: &'a [u8]) -> Option<Order<'a>>
-        ensures { option_map told result ≡ order_at line.now }
+        ensures { option_map as_told result ≡ order_at line.now }
     {
         match words(line)?.as_slice() {
             [[letter], fields @ ..] => order_for(char::from(*letter), fields),
@@ -154,7 +155,7 @@ impl<'a> Order<'a> {
         shelves: &mut Shelves<'_>,
     ) -> Answer
         requires { Fits self }
-        ensures { Called (deed_for (told self.entry)) job.old file.old shelves.old result job.new file.new shelves.new }
+        ensures { Called (deed_for (as_told self.entry)) job.old file.old shelves.old result job.new file.new shelves.new }
     {
         let call = match self {
             Order::Loan { piece, borrower } => Call::Loan { piece, borrower },
