@@ -270,15 +270,6 @@ impl Job {
         self.cancelled += 1;
         Ok(self.loans.len() as u32)
     }
-
-    /// Cancels every loan that is out, in the order in which they were granted, and ends the job.
-    pub fn scrap(mut self, file: &mut [u8], shelves: &mut Shelves) -> Result<Report, Refusal> {
-        self.check_length(file)?;
-        while let Some(first) = self.loans.first() {
-            self.cancel(file, shelves, first.number)?;
-        }
-        Ok(self.report())
-    }
 }
 
 /// Opens a job on a file, and makes the calls in order on it and on shelves that are empty.

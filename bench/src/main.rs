@@ -120,7 +120,7 @@ fn add_report(sum: &mut Sum, report: Report) {
     sum.add(report.out.into());
 }
 
-/// One run on empty shelves, and the end of its job. Only the last round is summed up.
+/// One run on empty shelves. Only the last round is summed up.
 fn make(
     file: &mut [u8],
     shelves: &mut Shelves,
@@ -133,8 +133,8 @@ fn make(
     if last {
         add_answers(&mut sum, &answers);
         add_state(&mut sum, file, shelves);
+        add_report(&mut sum, job.report());
     }
-    add_report(&mut sum, job.scrap(file, shelves)?);
     Ok(sum)
 }
 
