@@ -1,5 +1,5 @@
--- The bytes of a level.
-use Rattle.std.specs.Prelude.{ℕ, ◌+◌, ◌*◌, List, [], ◌∷◌}
+-- The bytes and the slices of levels.
+use Rattle.std.specs.Prelude.{ℕ, ◌+◌, ◌*◌, ◌≤◌, List, [], ◌∷◌}
 use Rattle.dds.specs.declared.level.Level.{Level}
 
 -- the bytes of one image of the level
@@ -14,3 +14,13 @@ level_end l = l.begin + l.slices * piece_length l
 abbrev pub total_of : List Level → ℕ
 total_of [] = 0
 total_of (l ∷ ls) = l.slices * piece_length l + total_of ls
+
+-- the slices of all levels of a list: the pieces of an element that has these levels
+abbrev pub slices_of : List Level → ℕ
+slices_of [] = 0
+slices_of (l ∷ ls) = l.slices + slices_of ls
+
+-- each level of a list has a slice
+abbrev pub Sliced : List Level → Type 0
+Sliced [] = Unit {0}
+Sliced (l ∷ ls) = (1 ≤ l.slices) × Sliced ls

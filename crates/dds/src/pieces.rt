@@ -7,7 +7,7 @@ use crate::layout::Layout;
 use crate::piece::Piece;
 
 // All pieces of a layout, in the order of the file.
-#[derive(Clone, Copy)]
+#[derive(Clone, Drop)]
 pub struct Pieces<'a> {
     layout: &'a Layout,
     next: u64,

@@ -1,7 +1,7 @@
 // Where the last piece of a file ends, found by walking over the pieces: two steps that hand over to each other, the form that
-// docs/ARCHITECTURE.md gives the walk.
+// docs/ARCHITECTURE.md gives the walk. Each level has a slice, so that the step over one leaves fewer pieces.
 ghost use Rattle.std.specs.Prelude.{◌≡◌, ◌+◌, ◌*◌, ◌^◌, ◌<◌};
-ghost use Rattle.dds.specs.LevelEnds.{total_of};
+ghost use Rattle.dds.specs.LevelEnds.{Sliced, total_of};
 
 use crate::level::Level;
 
@@ -9,7 +9,8 @@ use crate::level::Level;
 // first level of the next element.
 #[cycle(element_step_level_step)]
 pub(crate) fn element_step(levels: &[Level], elements_left: u64, place: u64) -> u64
-    requires { place + elements_left * total_of levels.now < 2 ^ 64 }
+    requires sliced { Sliced levels.now }
+    requires fits { place + elements_left * total_of levels.now < 2 ^ 64 }
     ensures { result ≡ place + elements_left * total_of levels.now }
 {
     if elements_left == 0 {
@@ -22,7 +23,9 @@ pub(crate) fn element_step(levels: &[Level], elements_left: u64, place: u64) -> 
 // length.
 #[cycle(element_step_level_step)]
 fn level_step(levels: &[Level], elements_left: u64, levels_left: &[Level], place: u64) -> u64
-    requires { place + total_of levels_left.now + elements_left * total_of levels.now < 2 ^ 64 }
+    requires sliced { Sliced levels.now }
+    requires left { Sliced levels_left.now }
+    requires fits { place + total_of levels_left.now + elements_left * total_of levels.now < 2 ^ 64 }
     ensures { result ≡ place + total_of levels_left.now + elements_left * total_of levels.now }
 {
     match levels_left {

@@ -83,17 +83,16 @@ impl Job {
         ensures layout { self.new.layout ≡ self.old.layout }
         ensures ledger { self.new.ledger ≡ ledger_ended self.old.ledger position (kept_by ending) (cancelled_by ending) (length (stock_of shelves.now).marks) (length (stock_of shelves.now).bytes) }
     {
-        let mut ledger = self.ledger;
+        let ledger = &mut self.ledger;
+        match ending {
+            Ending::Kept => ledger.kept += 1,
+            Ending::Cancelled => ledger.cancelled += 1,
+        }
         let out = ledger.out as usize;
         ledger.loans.copy_within(position + 1..out, position);
         ledger.out -= 1;
         ledger.marks = shelves.marks().count();
         ledger.bytes = shelves.bytes().count();
-        match ending {
-            Ending::Kept => ledger.kept += 1,
-            Ending::Cancelled => ledger.cancelled += 1,
-        }
-        self.ledger = ledger;
     }
 
     // Ends a loan for good; see `keep`.

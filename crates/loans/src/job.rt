@@ -4,8 +4,9 @@ ghost use Rattle.loans.specs.Books.{Balanced, Inside, Given, Rising};
 use crate::ledger::Ledger;
 use dds::Layout;
 
-// What is remembered of one opened file: where its pieces stand, its loans, its counts.
-#[derive(Clone, Copy)]
+// What is remembered of one opened file: where its pieces stand, its loans, its counts. Not copyable: a copy would keep a loan out
+// that was handed in.
+#[derive(Drop)]
 pub struct Job {
     pub(crate) layout: Layout,
     pub(crate) ledger: Ledger,

@@ -15,10 +15,10 @@ pub struct Loan {
 
 // The first `out` of the loans are out, in the order in which they were granted; the rest is left from before. `marks` and `bytes`
 // are the counts of the job's two shelves. A job has a number while a file is open in it.
-#[derive(Clone, Copy)]
+#[derive(Drop)]
 pub struct Ledger {
     pub number: Option<u32>,
-    // fixed memory with a count beside it: a job is Copy, which no vector of the loans would be
+    // fixed memory with a count beside it: there are at most 32 loans out, and a call takes no memory of the heap
     pub loans: [Loan; 32],
     pub out: u32,
     pub granted: u32,

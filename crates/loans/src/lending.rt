@@ -34,19 +34,22 @@ impl Job {
         requires numbers { self.now.ledger.granted < 65535 }
         ensures { result ≡ ledger_with self.now.ledger piece borrower area }
     {
-        let mut ledger = self.ledger;
+        let ledger = &self.ledger;
         let number = ledger.granted + 1;
-        let out = ledger.out as usize;
-        ledger.loans[out] = Loan {
+        let mut loans = ledger.loans;
+        loans[ledger.out as usize] = Loan {
             number,
             borrower,
             piece,
             area,
             strokes: 0,
         };
-        ledger.out += 1;
-        ledger.granted = number;
-        ledger
+        Ledger {
+            loans,
+            out: ledger.out + 1,
+            granted: number,
+            ..*ledger
+        }
     }
 
     // Lends a piece to a borrower, and answers the loan's number. Refuses with NoSuchPiece, PieceOut, TooManyLoans or

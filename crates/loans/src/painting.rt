@@ -147,11 +147,10 @@ impl Job {
         ensures layout { self.new.layout ≡ self.old.layout }
         ensures ledger { self.new.ledger ≡ ledger_counted self.old.ledger position strokes (length (stock_of shelves.now).marks) (length (stock_of shelves.now).bytes) }
     {
-        let mut ledger = self.ledger;
+        let ledger = &mut self.ledger;
         ledger.loans[position].strokes = strokes;
         ledger.marks = shelves.marks().count();
         ledger.bytes = shelves.bytes().count();
-        self.ledger = ledger;
     }
 
     // Lays a stroke; see `paint`.

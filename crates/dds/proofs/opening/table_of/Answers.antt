@@ -1,7 +1,7 @@
 use Rattle.std.proofs.Common.{sym, subst, arith, rules}
 use Rattle.dds.specs.Tables.{InRange}
 use Rattle.dds.proofs.Shaped.{shaped}
-use Rattle.dds.proofs.Opened.{walk_fits, made}
+use Rattle.dds.proofs.Opened.{Steps, walk_sliced, walk_fits, made}
 use Rattle.dds.proofs.opening.table_of.Goals as goal
 
 pub chain_of-chain-requires : goal.chain_of-chain-requires
@@ -21,16 +21,16 @@ slice_bounds-element_step-end g c =
 
 pub element_step-pixel_end-requires : goal.element_step-pixel_end-requires
 element_step-pixel_end-requires g c =
-    walk_fits
-    (record {
+    let steps : Steps c.args.header.now c.args.shape (g.F.Family.row_bytes c.args.family.now) (g.F.Family.rows c.args.family.now) _ _ _ _ _
+    = record {
       ok = shaped c.args.header.now c.args.shape c.requires;
       depth_is = c.depth.ensures;
       count_is = c.levels-level_count.ensures;
       begin_is = c.pixel_begin-pixel_begin.ensures;
       elements_is = c.elements-elements.ensures;
       chain_is = c.chain_of-chain.ensures;
-    })
-    (g.met.F.Family.bounded c.args.family.now)
+    } in
+    record { sliced = walk_sliced steps; fits = walk_fits steps (g.met.F.Family.bounded c.args.family.now) }
 
 pub overflow_cast-result : goal.overflow_cast-result
 overflow_cast-result g c =

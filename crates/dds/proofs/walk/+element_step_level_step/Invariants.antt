@@ -1,9 +1,10 @@
-use Rattle.std.proofs.Common.{◌+◌, ◌*◌, length}
+use Rattle.std.proofs.Common.{◌+◌, ◌*◌}
+use Rattle.dds.specs.LevelEnds.{slices_of}
 use Rattle.dds.proofs.walk.+element_step_level_step.Given as goal
 
--- the levels left to walk over, and a step more for each hand-over
+-- the pieces left to walk over, and a step more for each hand-over
 abbrev pub decreases-element_step : goal.decreases-element_step
-decreases-element_step l = l.elements_left * (length l.levels.now + 2)
+decreases-element_step l = l.elements_left * (slices_of l.levels.now + 2)
 
 abbrev pub decreases-level_step : goal.decreases-level_step
-decreases-level_step l = l.elements_left * (length l.levels.now + 2) + length l.levels_left.now + 1
+decreases-level_step l = l.elements_left * (slices_of l.levels.now + 2) + slices_of l.levels_left.now + 1

@@ -6,8 +6,8 @@ use Rattle.loans.proofs.job.Job.count_strokes.Goals as goal
 pub invariant_of-self : goal.invariant_of-self
 invariant_of-self c =
     let s = c.args.self.now in
-    let m = c.count.result in
-    let y = c.count-2.result in
+    let m = c.count-ledger.result in
+    let y = c.count-ledger-2.result in
     let out : c.args.position < s.ledger.out = omega (arith, c.requires, out_count s.ledger s.balanced) in
     record {
       balanced = counted_balanced s.ledger s.balanced c.args.position c.args.strokes m y out;

@@ -1,4 +1,4 @@
-use Rattle.std.proofs.Common.{◌≡◌, ◌<◌, sym, subst, arith, rules}
+use Rattle.std.proofs.Common.{◌≡◌, ◌-◌, ◌<◌, sym, subst, arith, rules}
 use Rattle.loans.specs.Books.{Balanced, Inside, Given, Rising}
 use Rattle.loans.specs.Writing.{kept_by, cancelled_by, ledger_ended}
 use Rattle.loans.proofs.Counting.{out_count}
@@ -9,12 +9,13 @@ use Rattle.loans.proofs.job.Job.end_loan.Goals as goal
 pub invariant_of-self : goal.invariant_of-self
 invariant_of-self c =
     let s = c.args.self.now in
-    let m = c.count.result in
-    let y = c.count-2.result in
+    let m = c.count-ledger.result in
+    let y = c.count-ledger-2.result in
     let more = kept_by c.args.ending in
     let less = cancelled_by c.args.ending in
     let out : c.args.position < s.ledger.out = omega (arith, c.requires, out_count s.ledger s.balanced) in
-    let is : c.match-ending.ledger ≡ ledger_ended s.ledger c.args.position more less m y =
+    let ended = c.match-ending.ledger in
+    let is : record ended { loans = c.copy_within.new.self; out = ended.out - 1; marks = m; bytes = y } ≡ ledger_ended s.ledger c.args.position more less m y =
     elim c.match-ending.branch [
       | in-Kept w ↦ search rules
       | in-Cancelled w ↦ search rules
