@@ -1,5 +1,5 @@
-# What the repository does: `make demo` shows it on sample data, `make test` is the gate, `make fmt` formats the sources.
-.PHONY: demo test fmt
+# What the repository does: `make demo` shows it on sample data, `make test` is the gate, `make bench` measures it, `make fmt` formats the sources.
+.PHONY: demo test bench fmt
 
 SAMPLES = crates/samples/data
 
@@ -17,6 +17,11 @@ target/bin/%: crates.txt $(shell find crates -path '*/out' -prune -o \( -name '*
 
 test:
 	.ci/run
+
+# The ratios of its costs to those of bench/, the same work in plain Rust.
+bench: target/bin/bench
+	cd bench && cargo build --release --offline
+	python3 bench/run.py
 
 fmt:
 	for crate in crates/*; do (cd $$crate && rt fmt) || exit 1; done

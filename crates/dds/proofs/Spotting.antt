@@ -1,9 +1,10 @@
 -- From a byte's offset in its element to its level, slice and offset there, by the numbers of a sound table.
-use Rattle.std.proofs.Common.{◌≡◌, ℕ, zero, suc, ◌+◌, ◌-◌, ◌*◌, ◌/◌, ◌%◌, ◌<◌, ◌≤◌, ◌⊎◌, true, false, List, length, take, nat_le, get_or, sym, refl, ap, ◌∙◌, subst, ⊎_elim, le_refl, suc-add, div-add-mod', zero-add, add-one, arith}
+use Rattle.std.proofs.Common.{◌≡◌, ℕ, zero, suc, ◌+◌, ◌-◌, ◌*◌, ◌/◌, ◌%◌, ◌<◌, ◌≤◌, ◌⊎◌, Bool, true, false, cond, List, [], ◌∷◌, filter, length, take, nat_le, get_or, sym, refl, ap, ◌∙◌, subst, ⊎_elim, le_refl, suc-add, div-add-mod', zero-add, add-one, arith}
 use Rattle.std.proofs.lemmas.Nat.{div_below, mod_below, mul-le}
 use Rattle.std.proofs.lemmas.Bool.{cases_lt, cases_order}
 use Rattle.std.proofs.lemmas.Bool.Decides.{nat_tests}
 use Rattle.std.proofs.lemmas.List.{get_or-take, get_or_default, length-take}
+use Rattle.std.specs.List.{AllWithin}
 use Rattle.std.specs.List.Sorted.{IsPartitionedBy, IsPartitionPoint}
 use Rattle.dds.specs.declared.level.Level.{Level}
 use Rattle.dds.specs.declared.piece.Piece.{Piece}
@@ -34,6 +35,45 @@ pub begin_within : (s z : ℕ → ℕ) (k n : ℕ) → k < n → begin_at s z (s
 begin_within s z k n h =
     let e : n - suc k + suc k ≡ n = omega arith in
     subst (λ m. begin_at s z (suc k) ≤ begin_at s z m) e (begin_grows s z (suc k) (n - suc k))
+
+-- nothing passes where each element fails
+none_pass : {X : Type 0} (p : X → Bool) (xs : List X) → AllWithin (λ y. p y ≡ false) xs 0 (length xs) → length (filter p xs) ≡ 0
+none_pass p [] h = refl
+none_pass p (x ∷ xs) h =
+    let e = h 0 x (omega arith) (omega arith) in
+    rw e (none_pass p xs (λ k d low high. h (suc k) d (omega arith) (omega arith)))
+
+within_front : {X : Type 0} (P : X → Type 0) (x : X) (xs : List X) (n : ℕ) → P x → AllWithin P xs 0 n → AllWithin P (x ∷ xs) 0 (suc n)
+within_front P x xs n a h zero d low high = a
+within_front P x xs n a h (suc k) d low high = h k d (omega arith) (omega arith)
+
+within_behind : {X : Type 0} (P : X → Type 0) (x : X) (xs : List X) (m n : ℕ) → AllWithin P xs m n → AllWithin P (x ∷ xs) (suc m) (suc n)
+within_behind P x xs m n h zero d low high = absurd (omega arith)
+within_behind P x xs m n h (suc k) d low high = h k d (omega arith) (omega arith)
+
+fails_too : (a b : Bool) → (b ≡ true → a ≡ true) → a ≡ false → b ≡ false
+fails_too a true h e = sym (h refl) ∙ e
+fails_too a false h e = refl
+
+-- where those that pass come first, they end where their count says
+pub passing_first : {X : Type 0} (p : X → Bool) (xs : List X) → IsPartitionedBy p xs
+    → IsPartitionPoint (λ y. p y ≡ true) (λ y. p y ≡ false) xs (length (filter p xs))
+passing_first p [] parts = ((λ k d low high. absurd (omega arith)), (λ k d low high. absurd (omega arith)))
+passing_first {X} p (x ∷ xs) parts =
+    go (p x) refl (passing_first p xs (λ i j d h few below. parts (suc i) (suc j) d (omega arith) (omega arith) below))
+  where
+    go : (b : Bool) → p x ≡ b → IsPartitionPoint (λ y. p y ≡ true) (λ y. p y ≡ false) xs (length (filter p xs))
+        → IsPartitionPoint (λ y. p y ≡ true) (λ y. p y ≡ false) (x ∷ xs) (length (cond b (x ∷ filter p xs) (filter p xs)))
+    go true e r = (
+      within_front (λ y. p y ≡ true) x xs (length (filter p xs)) e r.0,
+      within_behind (λ y. p y ≡ false) x xs (length (filter p xs)) (length xs) r.1,
+    )
+    go false e r =
+        let fails : AllWithin (λ y. p y ≡ false) (x ∷ xs) 0 (suc (length xs))
+        = λ k d low high. fails_too (p x) (p (get_or (x ∷ xs) k d)) (λ passes. parts 0 k d (omega arith) high passes) e in
+        let none = none_pass p xs (λ k d low high. fails (suc k) d (omega arith) (omega arith)) in
+        subst (λ n. IsPartitionPoint (λ y. p y ≡ true) (λ y. p y ≡ false) (x ∷ xs) n) (sym none)
+        ((λ k d low high. absurd (omega arith)), fails)
 
 module _ (t : Table) (counted : Counted t) (chained : Chained t) (ended : Ended t) where
   -- the first level begins with the element

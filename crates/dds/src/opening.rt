@@ -1,5 +1,6 @@
 // Laying out a file.
 ghost use Rattle.std.specs.Prelude.{◌≡◌, ◌≤◌, Ok};
+ghost use Rattle.dds.specs.Headers.{header_read};
 ghost use Rattle.dds.specs.Shapes.{shape_read};
 ghost use Rattle.dds.specs.Layouts.{TableOf, LaidOut, Opened, OpenedBy};
 ghost use Rattle.dds.specs.Plans.{pixel_begin};
@@ -71,6 +72,15 @@ fn lay_out<F: Family>(
 }
 
 impl Layout {
+    // The layout of a file whose header was read. Refuses as `read_shape` does, then with WrongEnd.
+    fn behind<F: Family>(head: FileHead<'_>, header: &Header, family: &F) -> Result<Layout, Refusal>
+        requires { header_read head.bytes.now head.length ≡ Ok header.now }
+        ensures { Opened head.entry.bytes.now head.entry.length (F.row_bytes family.now) (F.rows family.now) result }
+    {
+        let shape = header.read_shape()?;
+        lay_out(header, shape, head.length, family)
+    }
+
     // The layout of a file for any family, from the file's head and its length. No format table is read. Refuses with
     // WrongLength, WrongMagic, WrongHeaderSize, ShortExtendedHeader, NoShape, OutOfRange, TooManyLevels or WrongEnd, in this
     // order.
@@ -78,8 +88,7 @@ impl Layout {
         ensures { Opened head.entry.bytes.now head.entry.length (F.row_bytes family.now) (F.rows family.now) result }
     {
         let header = Header::read(head)?;
-        let shape = header.read_shape()?;
-        lay_out(&header, shape, head.length, family)
+        Layout::behind(head, &header, family)
     }
 
     // The layout of a file by the format that its header names, with a table of the codes other than DX10. Refuses as
@@ -89,6 +98,6 @@ impl Layout {
     {
         let header = Header::read(head)?;
         let format = header.format(codes).ok_or(Refusal::UnknownFormat)?;
-        Layout::read_with(head, &format)
+        Layout::behind(head, &header, &format)
     }
 }

@@ -19,13 +19,18 @@ pub struct Spot {
 }
 
 impl Layout {
-    // The level that has the byte at an offset in its element: the last that begins there or before.
+    // The level that has the byte at an offset in its element: the last that begins there or before. Those that do are counted and
+    // the last is not searched for, since a count over at most 15 levels has no branch that the processor could guess wrong.
     fn level_holding(&self, offset: u64) -> usize
         ensures within { result < self.now.table.level_count }
         ensures begun { (get_or self.now.table.levels result blank).begin ≤ offset }
         ensures last { result + 1 < self.now.table.level_count → offset < (get_or self.now.table.levels (result + 1) blank).begin }
     {
-        self.levels().partition_point(|level| level.begin <= offset) - 1
+        let mut begun = 0;
+        for level in self.levels() {
+            begun += usize::from(level.begin <= offset);
+        }
+        begun - 1
     }
 
     // The spot of the byte at an offset in its element.
@@ -80,7 +85,7 @@ impl Layout {
     }
 
     // The piece that has the byte at a place, and the byte's offset in it; none where the byte is of no piece, as in the header.
-    // One division finds the element, a search among its levels the level. Refuses with PastFileEnd.
+    // One division finds the element, a pass over its levels the level. Refuses with PastFileEnd.
     pub fn piece_at(&self, place: u64) -> Result<Option<(Piece, u32)>, Refusal>
         ensures value { WhoseIs self.now place result }
         ensures tiled { Tiled self.now }
