@@ -1,5 +1,6 @@
-# What the repository does: `make demo` shows it on sample data, `make test` is the gate, `make bench` measures it, `make fmt` formats the sources.
-.PHONY: demo test bench fmt
+# What the repository does: `make demo` shows it on sample data, `make test` is the gate, `make bench` measures it,
+# `make robust` tries the programs where something is wrong around them, `make fmt` formats the sources.
+.PHONY: demo test bench robust fmt
 
 SAMPLES = crates/samples/data
 
@@ -22,6 +23,9 @@ test:
 bench: target/bin/bench
 	cd bench && cargo build --release --offline
 	python3 bench/run.py
+
+robust: target/bin/cuivakko target/bin/pieces target/bin/retouch
+	tools/robust.sh target/bin
 
 fmt:
 	for crate in crates/*; do (cd $$crate && rt fmt) || exit 1; done
