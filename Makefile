@@ -10,9 +10,9 @@ demo: target/bin/cuivakko target/bin/pieces target/bin/retouch
 	@for file in $(SAMPLES)/*.dds; do echo "$$file"; target/bin/pieces $$file || exit 1; done
 	@target/bin/retouch $(SAMPLES)/cube-rgb.dds
 
-# rt proves a program before it links it. Run without arguments, each program says how it is used, and nothing else.
+# rt proves a program before it links it, and runs it then: without arguments and input each ends at once.
 target/bin/%: crates.txt $(shell find crates -path '*/out' -prune -o \( -name '*.rt' -o -name '*.antt' \) -print)
-	cd crates/$* && rt run >/dev/null
+	cd crates/$* && rt run </dev/null >/dev/null
 	@mkdir -p target/bin
 	cp crates/$*/out/$* $@
 
