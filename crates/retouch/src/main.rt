@@ -32,9 +32,11 @@ enum Fault {
     Unreadable(io::Error),
     #[error("{0}")]
     Refused(#[from] Refusal),
-    // printing failed or memory ran out, or what failed was told already
-    #[error("{0}")]
-    Told(#[from] io::Error),
+    // printing failed, or memory ran out
+    #[error("the steps cannot be printed: {0}")]
+    Output(#[from] io::Error),
+    #[error("told already")]
+    Told,
 }
 
 // Makes the calls, and tells each with its answer.
@@ -120,7 +122,7 @@ fn run(rt: &HostRuntime, path: &str, out: Option<&String>) -> Result<(), Fault> 
         Ok(()) => Ok(println!(rt; "write {out}: {length} bytes")?),
         Err(error) => {
             eprintln!(rt; "retouch: {out} was not written, through {out}.part: {error}")?;
-            Err(Fault::Told(error))
+            Err(Fault::Told)
         }
     }
 }
@@ -141,7 +143,7 @@ fn main(rt: HostRuntime) -> io::Result<ExitCode> {
     }
     match run(&rt, path.as_str(), args.get(1)) {
         Ok(()) => return Ok(ExitCode::SUCCESS),
-        Err(Fault::Told(_)) => {}
+        Err(Fault::Told) => {}
         Err(fault) => eprintln!(rt; "retouch: {path}: {fault}")?,
     }
     Ok(ExitCode::FAILURE)
