@@ -63,9 +63,11 @@ fn read_master(rt: &HostRuntime) -> io::Result<Vec<u8>> {
     }
 }
 
-// Whole or not at all.
+// Whole or not at all. What a killed run left under the first name is taken away, and so is a link of that name, which is never written
+// through.
 fn write_shipped(rt: &HostRuntime, bytes: &[u8]) -> io::Result<()> {
-    let mut part = File::create(rt, PART)?;
+    let _ = fs::remove_file(rt, PART);
+    let mut part = File::create_new(rt, PART)?;
     let written = part
         .write_all(bytes)
         .and_then(|()| fs::rename(rt, PART, SHIPPED));
