@@ -1,7 +1,7 @@
 // The order program: carries out the orders on standard input on master.dds, prints an answer for each, and ships the texture.
 #![tactic(auto)]
 
-use orders::{Ending, MOST_MASTER, MOST_ORDERS, Reply, run_day};
+use orders::{Ending, LONGEST_MASTER, LONGEST_ORDERS, Reply, run_day};
 use std::alloc::AllocError;
 use std::fs::File;
 use std::io::{ErrorKind, Read, Write};
@@ -57,7 +57,7 @@ fn read_up_to<R: Read + Drop>(rt: &HostRuntime, reader: R, limit: usize) -> io::
 // A texture that is absent counts as an empty one.
 fn read_master(rt: &HostRuntime) -> io::Result<Vec<u8>> {
     match File::open(rt, MASTER) {
-        Ok(file) => read_up_to(rt, file, MOST_MASTER),
+        Ok(file) => read_up_to(rt, file, LONGEST_MASTER),
         Err(error) if error.kind() == ErrorKind::NotFound => Ok(Vec::new(rt.alloc())),
         Err(error) => Err(error),
     }
@@ -87,7 +87,7 @@ fn print(rt: &HostRuntime, lines: &[u8]) -> Result<(), Fault> {
 // The last line is printed when the file stands.
 fn run(rt: &HostRuntime) -> Result<(), Fault> {
     let mut master = read_master(rt).map_err(Fault::Master)?;
-    let orders = read_up_to(rt, rt.stdin(), MOST_ORDERS).map_err(Fault::Orders)?;
+    let orders = read_up_to(rt, rt.stdin(), LONGEST_ORDERS).map_err(Fault::Orders)?;
     let mut printed = Vec::new(rt.alloc());
     let ending = run_day(&mut master, &orders, &mut printed)?;
     if ending != Ending::Shipped {

@@ -17,11 +17,11 @@ use Rattle.loans.specs.Rules.{Deed as deeds}
 use Rattle.orders.specs.declared.order.Order.{Order}
 use Rattle.orders.specs.declared.order.Order.TheVariants.{Loan, LoanElement, Paint, Undo, Keep, Cancel}
 use Rattle.orders.specs.Spelling.{letter, numbers, hex_pair, spelling}
-use Rattle.orders.specs.Spelling.Told.{paint}
-use Rattle.orders.specs.Words.{bytes_of}
-use Rattle.orders.specs.Reading.{as_told}
-use Rattle.orders.specs.Orders.{Fits}
-use Rattle.orders.specs.Steps.{after_line, Answered}
+use Rattle.orders.specs.Spelling.Wording.{paint}
+use Rattle.orders.specs.Words.{hex_bytes}
+use Rattle.orders.specs.Orders.{as_worded}
+use Rattle.orders.specs.Orders.{HasShortDigits}
+use Rattle.orders.specs.Steps.{after_line, LineAnswered}
 use Rattle.orders.proofs.Hex.{pairs_again}
 
 out_few : (j : Job) → length (outs j.ledger) ≤ 32
@@ -34,11 +34,11 @@ last_within (x ∷ []) w = omega (arith, length-append x (32 ∷ w))
 last_within (x ∷ y ∷ ws) w = omega (arith, last_within (y ∷ ws) w, length-append x (32 ∷ join_with_byte 32 (y ∷ ws ++ w ∷ [])))
 
 -- the digits of an order that a line tells are no longer than the line
-pub order_fits : (line : List ℕ) (o : Order) → line ≡ spelling (as_told o) → length line ≤ 16384 → Fits o
+pub order_fits : (line : List ℕ) (o : Order) → line ≡ spelling (as_worded o) → length line ≤ 16384 → HasShortDigits o
 order_fits line (Loan p who) e h = tt
 order_fits line (LoanElement x who) e h = tt
 order_fits line (Paint n who r f ds) e h =
-    let p : Painting = record { loan = n; borrower = who; row = r; first = f; laid = bytes_of ds.digits.now } in
+    let p : Painting = record { loan = n; borrower = who; row = r; first = f; laid = hex_bytes ds.digits.now } in
     omega (arith, h, ap length e, ap length (pairs_again ds.digits.now ds.pairs), last_within ((letter (paint p) ∷ []) ∷ map decimal (numbers (paint p))) (flat_map hex_pair p.laid))
 order_fits line (Undo n who) e h = tt
 order_fits line (Keep n) e h = tt
@@ -81,7 +81,7 @@ same_after s d = go (refusal_of s d)
     go None = same_most s d
     go (Some e) = refl
 
-pub answered_most : (line : List ℕ) (s t : State) (a : Result ℕ Refusal) → Answered line s a t → t.stock.most_marks ≡ s.stock.most_marks
+pub answered_most : (line : List ℕ) (s t : State) (a : Result ℕ Refusal) → LineAnswered line s a t → t.stock.most_marks ≡ s.stock.most_marks
 answered_most line s t a one = ap (λ (x : State). x.stock.most_marks) one.left ∙ go one.wish
   where
     go : (w : Option Deed) → (after_line s w).stock.most_marks ≡ s.stock.most_marks

@@ -35,3 +35,11 @@ begins_some text n h some =
       ap less_empty_end (slice_split_first is_end text 0 inside) ∙ cut ∙ ap₂ (λ (l : List ℕ) (ls : List (List ℕ)). l ∷ ls) (ap (λ k. take k text) same) (ap (λ k. lines_of (drop (k + 1) text)) same),
       omega (arith, length-drop (n + 1) text, same, inside),
     )
+
+-- a line's end stands in the text
+pub end_inside : (text : List ℕ) (n : ℕ) → position_from is_end 0 text ≡ Some n → n < length text
+end_inside text n h =
+    let at : ℕ = position_or_len is_end text in
+    let c : (ltb at (length text) ≡ true) × (at ≡ n) = cond_some _ _ n (position_from-zero is_end text ∙ h) in
+    let inside : at < length text = ltb-true _ _ c.0 in
+    omega (arith, c.1, inside)

@@ -1,5 +1,5 @@
 -- A day on a texture that was opened.
-use Rattle.std.proofs.Common.{◌≡◌, ℕ, min, List, [], ◌∷◌, ◌++◌, length, take, Some, None, Option, Ok, Err, Result, refl, sym, ap, ◌∙◌, subst, append_assoc}
+use Rattle.std.proofs.Common.{arith, append-nil, ◌≡◌, ℕ, min, List, [], ◌∷◌, ◌++◌, length, take, Some, None, Option, Ok, Err, Result, refl, sym, ap, ◌∙◌, subst, append_assoc}
 use Rattle.refusal.specs.declared.Refusal.{Refusal}
 use Rattle.refusal.specs.declared.Refusal.TheVariants.{MalformedOrder}
 use Rattle.formats.specs.declared.kinds.FormatName.{FormatName}
@@ -28,8 +28,8 @@ use Rattle.orders.specs.declared.day.Ending.{Ending}
 use Rattle.orders.specs.declared.day.Ending.TheVariants.{Refused, Shipped, Scrapped}
 use Rattle.orders.specs.Lines.{lines_of}
 use Rattle.orders.specs.Replies.{reply_text}
-use Rattle.orders.specs.Days.{Given, OpenedAs, empty_stock, answer_lines, Closed, closing_reply, calls_in, answers_in, Worked, Begun}
-use Rattle.orders.specs.Steps.{answers_for, after_lines, AllAnswered}
+use Rattle.orders.specs.Days.{DayInputs, MasterOpened, empty_stock, answer_lines, Closed, closing_reply, calls_in, answers_in, Worked, Ended}
+use Rattle.orders.specs.Steps.{answers_for, after_lines, LinesAnswered}
 
 -- a layout has its file's length
 by_name : (head : List ℕ) (n : ℕ) (name : Option FormatName) (y : Layout) → layouts.OpenedAs head n name (Ok y) → y.table.length ≡ n
@@ -55,7 +55,7 @@ answered_by_calls s (None ∷ ws) = ap (λ rs. Err MalformedOrder ∷ rs) (answe
 answered_by_calls s (Some d ∷ ws) = ap (λ rs. answer_to s d ∷ rs) (answered_by_calls (after s d) ws)
 
 -- the program's job and shelves, just opened
-pub first_state : (g : Given) (j : Job) (v : Shelves) (marks : Shelf Mark) (bytes : Shelf ℕ) (lent_marks : List Mark) (lent_bytes : List ℕ) → book_of j ≡ fresh_book j.layout.table (Some 1)
+pub first_state : (g : DayInputs) (j : Job) (v : Shelves) (marks : Shelf Mark) (bytes : Shelf ℕ) (lent_marks : List Mark) (lent_bytes : List ℕ) → book_of j ≡ fresh_book j.layout.table (Some 1)
     → v.marks ≡ marks → v.bytes ≡ bytes → New lent_marks marks → New lent_bytes bytes → length lent_marks ≡ 64 → length lent_bytes ≡ 4096
     → state_of j g.master v ≡ opened_state j.layout.table 1 g.master empty_stock
 first_state g j v marks bytes lent_marks lent_bytes book a b m n few_marks few_bytes =
@@ -65,14 +65,14 @@ first_state g j v marks bytes lent_marks lent_bytes book a b m n few_marks few_b
     let k : capacity_of v.bytes ≡ 4096 = ap capacity_of b ∙ n.capacity ∙ ap (λ k. min k 1073741824) few_bytes in
     λ i. record { book = book i; file = g.master; stock = record { marks = e i; bytes = f i; most_marks = h i; most_bytes = k i } }
 
-module _ (g : Given) (y : Layout) (opened : OpenedAs g (Ok y)) where
+module _ (g : DayInputs) (y : Layout) (opened : MasterOpened g (Ok y)) where
   abbrev first : State
   first = opened_state y.table 1 g.master empty_stock
 
   sized : length g.master ≡ y.table.length
   sized = sym (opened_length (take 148 g.master) (length g.master) (name_for plain_rows) y opened)
 
-  module _ (s₀ s : State) (new : List ℕ) (same : s₀ ≡ first) (all : AllAnswered (lines_of g.orders) s₀ g.old s new) where
+  module _ (lines : List (List ℕ)) (s₀ s : State) (new : List ℕ) (same : s₀ ≡ first) (all : LinesAnswered lines s₀ g.before s new) where
     abbrev calls : List Deed
     calls = calls_in all.wishes
 
@@ -93,25 +93,36 @@ module _ (g : Given) (y : Layout) (opened : OpenedAs g (Ok y)) where
           ours = ours.0;
         })
 
+  -- the job is the file's before any line is read
+  pub first_home : (s : State) → s ≡ first → AtHome s
+  first_home s same = at_home [] s s g.before same (record { wishes = []; asked = tt; printed = sym (append-nil g.before); left = refl })
+
+  -- and if it is closed then, the file is as it was
+  pub first_closed : (s : State) (ending : Ending) (file : List ℕ) → s ≡ first → Closed s ending file → file ≡ g.master
+  first_closed s (Refused e) file same closed = absurd closed
+  first_closed s Shipped file same closed = closed.1 ∙ ap (λ (x : State). x.file) same
+  first_closed s Scrapped file same closed = absurd (omega (arith, closed.0, ap (λ (x : State). length x.book.outs) same))
+
+  module _ (s₀ s : State) (new : List ℕ) (same : s₀ ≡ first) (all : LinesAnswered (lines_of g.orders) s₀ g.before s new) where
     worked : (ending : Ending) (file new' : List ℕ) → Closed s ending file → new' ≡ new ++ reply_text (closing_reply ending) → Worked g ending file new'
     worked ending file new' closed printed = record {
       layout = y;
       opened = opened;
       wishes = all.wishes;
       asked = all.asked;
-      given = answers_to first calls;
-      each = answers_to_length first calls;
+      answers = answers_to first (calls_in all.wishes);
+      each = answers_to_length first (calls_in all.wishes);
       by_rules = refl;
       printed =
           printed
-          ∙ ap (λ xs. xs ++ reply_text (closing_reply ending)) (all.printed ∙ ap (λ rs. g.old ++ answer_lines rs) (ap (λ (x : State). answers_for x all.wishes) same ∙ answered_by_calls first all.wishes))
-          ∙ append_assoc g.old _ _;
+          ∙ ap (λ xs. xs ++ reply_text (closing_reply ending)) (all.printed ∙ ap (λ rs. g.before ++ answer_lines rs) (ap (λ (x : State). answers_for x all.wishes) same ∙ answered_by_calls first all.wishes))
+          ∙ append_assoc g.before _ _;
       end = s;
-      law = law;
+      law = law (lines_of g.orders) s₀ s new same all;
       closed = closed;
     }
 
-    pub begun : (ending : Ending) (file new' : List ℕ) → Closed s ending file → new' ≡ new ++ reply_text (closing_reply ending) → Begun g ending file new'
-    begun (Refused e) file new' closed printed = absurd closed
-    begun Shipped file new' closed printed = worked Shipped file new' closed printed
-    begun Scrapped file new' closed printed = worked Scrapped file new' closed printed
+    pub ended : (ending : Ending) (file new' : List ℕ) → Closed s ending file → new' ≡ new ++ reply_text (closing_reply ending) → Ended g ending file new'
+    ended (Refused e) file new' closed printed = absurd closed
+    ended Shipped file new' closed printed = worked Shipped file new' closed printed
+    ended Scrapped file new' closed printed = worked Scrapped file new' closed printed

@@ -6,7 +6,7 @@ use Rattle.std.proofs.lemmas.Option.{cond_some}
 use Rattle.std.specs.Fmt.{digit_glyph}
 use Rattle.std.specs.List.{list_all, flat_map, AllByRecursion}
 use Rattle.orders.specs.Spelling.{hex_pair}
-use Rattle.orders.specs.Words.{is_hex, are_pairs, nibble, bytes_of, bytes_at}
+use Rattle.orders.specs.Words.{is_hex, are_pairs, nibble, hex_bytes, hex_bytes_at}
 
 -- what a hex digit counts has that digit
 nibble_takes : (d : ℕ) → is_hex d ≡ true → (digit_glyph false (nibble d) ≡ d) × (nibble d < 16)
@@ -31,7 +31,7 @@ glyph_again n small = elim (cases_lt n 10) [
 ]
 
 spelled : (bs : List ℕ) → AllByRecursion (λ b. b < 256) bs
-    → (list_all is_hex (flat_map hex_pair bs) ≡ true) × (length (flat_map hex_pair bs) ≡ 2 * length bs) × (bytes_of (flat_map hex_pair bs) ≡ bs)
+    → (list_all is_hex (flat_map hex_pair bs) ≡ true) × (length (flat_map hex_pair bs) ≡ 2 * length bs) × (hex_bytes (flat_map hex_pair bs) ≡ bs)
 spelled [] h = (refl, refl, refl)
 spelled (b ∷ bs) h =
     let rest = spelled bs h.1 in
@@ -43,14 +43,14 @@ spelled (b ∷ bs) h =
     )
 
 -- bytes are read from their digits
-pub bytes_again : (bs : List ℕ) → 0 < length bs → AllByRecursion (λ b. b < 256) bs → bytes_at (flat_map hex_pair bs) ≡ Some bs
+pub bytes_again : (bs : List ℕ) → 0 < length bs → AllByRecursion (λ b. b < 256) bs → hex_bytes_at (flat_map hex_pair bs) ≡ Some bs
 bytes_again bs some small =
     let w = spelled bs small in
     let two : length (flat_map hex_pair bs) ≡ 2 * length bs = w.1 in
     rw (ne_eqb (length (flat_map hex_pair bs)) 0 (λ e. omega arith), eq-eqb (length (flat_map hex_pair bs) % 2) 0 (omega arith), w.0, w.2) refl
 
 taken : (ds : List ℕ) → length ds % 2 ≡ 0 → list_all is_hex ds ≡ true
-    → (flat_map hex_pair (bytes_of ds) ≡ ds) × (2 * length (bytes_of ds) ≡ length ds) × AllByRecursion (λ b. b < 256) (bytes_of ds)
+    → (flat_map hex_pair (hex_bytes ds) ≡ ds) × (2 * length (hex_bytes ds) ≡ length ds) × AllByRecursion (λ b. b < 256) (hex_bytes ds)
 taken [] even h = (refl, refl, tt)
 taken (d ∷ []) even h = absurd (omega arith)
 taken (d ∷ e ∷ ds) even h =
@@ -67,9 +67,9 @@ taken (d ∷ e ∷ ds) even h =
     )
 
 -- and from nothing else
-pub bytes_takes : (ds bs : List ℕ) → bytes_at ds ≡ Some bs → (ds ≡ flat_map hex_pair bs) × (0 < length bs) × AllByRecursion (λ b. b < 256) bs
+pub bytes_takes : (ds bs : List ℕ) → hex_bytes_at ds ≡ Some bs → (ds ≡ flat_map hex_pair bs) × (0 < length bs) × AllByRecursion (λ b. b < 256) bs
 bytes_takes ds bs e =
-    let c = cond_some (are_pairs ds) (bytes_of ds) bs e in
+    let c = cond_some (are_pairs ds) (hex_bytes ds) bs e in
     let a = and_parts (not (eqb (length ds) 0)) (eqb (length ds % 2) 0 && list_all is_hex ds) c.0 in
     let b = and_parts (eqb (length ds % 2) 0) (list_all is_hex ds) a.1 in
     let t = taken ds (eqb-true _ _ b.0) b.1 in
@@ -85,7 +85,7 @@ all_hex bs small = (spelled bs small).0
 
 -- while bytes are read from digits: those that were read, and the digits that are left
 pub record Left (text digits read : List ℕ) : Type 0 where
-  pub all : read ++ bytes_of digits ≡ bytes_of text
+  pub all : read ++ hex_bytes digits ≡ hex_bytes text
   pub hex : list_all is_hex digits ≡ true
   pub room : 2 * length read + length digits ≤ 16384
 
@@ -101,18 +101,18 @@ pub left_more : (text digits read : List ℕ) (h l : ℕ) (ds : List ℕ) → di
 left_more text digits read h l ds e w =
     let here = subst (λ (xs : List ℕ). Left text xs read) e w in
     record {
-      all = append_assoc read ((nibble h * 16 + nibble l) ∷ []) (bytes_of ds) ∙ here.all;
+      all = append_assoc read ((nibble h * 16 + nibble l) ∷ []) (hex_bytes ds) ∙ here.all;
       hex = (and_parts (is_hex l) (list_all is_hex ds) (and_parts (is_hex h) (is_hex l && list_all is_hex ds) here.hex).1).1;
       room = omega (arith, here.room, length-append read ((nibble h * 16 + nibble l) ∷ []));
     }
 
-pub left_none : (text digits read : List ℕ) → length digits < 2 → Left text digits read → read ≡ bytes_of text
+pub left_none : (text digits read : List ℕ) → length digits < 2 → Left text digits read → read ≡ hex_bytes text
 left_none text [] read few w = sym (append-nil read) ∙ w.all
 left_none text (d ∷ []) read few w = sym (append-nil read) ∙ w.all
 left_none text (d ∷ e ∷ ds) read few w = absurd (omega arith)
 
 -- pairs of digits are spelled by their bytes
-pub pairs_again : (ds : List ℕ) → are_pairs ds ≡ true → flat_map hex_pair (bytes_of ds) ≡ ds
+pub pairs_again : (ds : List ℕ) → are_pairs ds ≡ true → flat_map hex_pair (hex_bytes ds) ≡ ds
 pairs_again ds h =
     let a = and_parts (not (eqb (length ds) 0)) (eqb (length ds % 2) 0 && list_all is_hex ds) h in
     let b = and_parts (eqb (length ds % 2) 0) (list_all is_hex ds) a.1 in

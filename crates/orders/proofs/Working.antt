@@ -1,5 +1,5 @@
 -- While the lines of a text are answered: what was printed, and how much room is left.
-use Rattle.std.proofs.Common.{◌≡◌, ℕ, zero, suc, ◌+◌, ◌*◌, ◌<◌, ◌≤◌, List, [], ◌∷◌, ◌++◌, length, take, drop, Some, None, Option, Ok, Err, Result, refl, sym, ap, ap₂, ◌∙◌, subst, arith, append_assoc, length-append, length-take}
+use Rattle.std.proofs.Common.{◌≡◌, ℕ, zero, suc, ◌+◌, ◌*◌, ◌<◌, ◌≤◌, List, [], ◌∷◌, ◌++◌, length, take, drop, Some, None, Option, Ok, Err, Result, refl, sym, ap, ap₂, ◌∙◌, subst, arith, append_assoc, length-append, length-take, length-drop}
 use Rattle.std.specs.Prelude.{decimal, codes, IfOk}
 use Rattle.std.specs.List.{AllByRecursion, position_from}
 use Rattle.std.proofs.lemmas.List.{append-nil}
@@ -7,12 +7,15 @@ use Rattle.std.proofs.lemmas.Fmt.{length-decimal-le}
 use Rattle.refusal.specs.declared.Refusal.{Refusal}
 use Rattle.refusal.specs.declared.Refusal.TheVariants.{WrongLength, WrongMagic, WrongHeaderSize, ShortExtendedHeader, UnknownFormat, NoShape, OutOfRange, TooManyLevels, WrongEnd, NoSuchPiece, PastFileEnd, OtherLength, PieceOut, TooManyLoans, NumbersUsedUp, LoanNotOut, OtherBorrower, ForeignShelves, OutsideRow, NoSpace, NothingToUndo, OtherDocket, LoansOut, ShelfFull, PastCount, MalformedOrder, OverLimit}
 use Rattle.refusal.specs.Numbers.{number_of}
+use Rattle.loans.specs.Rules.{Deed}
 use Rattle.loans.specs.Strokes.{State}
 use Rattle.orders.specs.Replies.{reply_text, reply_to}
+use Rattle.orders.specs.Spelling.{Wording, spelling}
+use Rattle.orders.specs.Spelling.Wording.{lend, lend_element, paint, undo, keep, cancel}
 use Rattle.orders.specs.Lines.{lines_of, is_end, Begins}
-use Rattle.orders.specs.Days.{answer_lines}
-use Rattle.orders.specs.Steps.{Answered, answers_for, after_lines, AllAnswered}
-use Rattle.orders.proofs.Cutting.{begins_none, begins_some}
+use Rattle.orders.specs.Days.{Asks, answer_lines}
+use Rattle.orders.specs.Steps.{answer_for, LineAnswered, answers_for, after_lines, LinesAnswered}
+use Rattle.orders.proofs.Cutting.{begins_none, begins_some, end_inside}
 
 -- ---- a line is short
 
@@ -56,17 +59,29 @@ reply_short (Ok n) h =
     omega (arith, length-append (codes "ok ") (decimal n ++ 10 ∷ []), length-append (decimal n) (10 ∷ []), length-decimal-le 5 n (omega arith) (omega (arith, h)) (omega (arith, h)))
 reply_short (Err e) h = omega (arith, refusal_short e)
 
--- ---- lines are few and short
+-- ---- lines are short
 
--- a text has no more lines than bytes, and none longer than the text
+-- the bytes that a line takes in its text at least; an empty line has its end
+abbrev pub weight : List ℕ → ℕ
+weight [] = 1
+weight (b ∷ bs) = length (b ∷ bs)
+
+abbrev pub weights : List (List ℕ) → ℕ
+weights [] = 0
+weights (l ∷ ls) = weight l + weights ls
+
+-- the lines of a text take no more than the text, and none is longer than it
 abbrev pub Small : ℕ → List ℕ → Type 0
-Small m text = (length (lines_of text) ≤ length text) × AllByRecursion (λ l. length l ≤ m) (lines_of text)
+Small m text = (weights (lines_of text) ≤ length text) × AllByRecursion (λ l. length l ≤ m) (lines_of text)
 
-joined : (m : ℕ) (text line after : List ℕ) → Begins text line after → 0 < length text → length line ≤ m → Small m after → Small m text
-joined m text line after b some short rest =
+weight_most : (l : List ℕ) → weight l ≤ length l + 1
+weight_most [] = omega arith
+weight_most (b ∷ bs) = omega arith
+
+joined : (m : ℕ) (text line after : List ℕ) → Begins text line after → 0 < length text → weight line + length after ≤ length text → length line ≤ m → Small m after → Small m text
+joined m text line after b some fits short rest =
     let is = (b some).0 in
-    let less = (b some).1 in
-    (omega (arith, ap length is, less, rest.0), subst (AllByRecursion (λ l. length l ≤ m)) (sym is) (short, rest.1))
+    (omega (arith, ap weights is, fits, rest.0), subst (AllByRecursion (λ l. length l ≤ m)) (sym is) (short, rest.1))
 
 pub lines_small : (fuel m : ℕ) (text : List ℕ) → length text ≤ fuel → length text ≤ m → Small m text
 lines_small fuel m [] f h = (omega arith, tt)
@@ -74,16 +89,45 @@ lines_small zero m (b ∷ text) f h = absurd (omega arith)
 lines_small (suc fuel) m (b ∷ text) f h = go (position_from is_end 0 (b ∷ text)) refl (lines_small fuel m)
   where
     go : (r : Option ℕ) → position_from is_end 0 (b ∷ text) ≡ r → ((after : List ℕ) → length after ≤ fuel → length after ≤ m → Small m after) → Small m (b ∷ text)
-    go None e rest = joined m (b ∷ text) (b ∷ text) [] (begins_none (b ∷ text) e) (omega arith) h (omega arith, tt)
+    go None e rest = joined m (b ∷ text) (b ∷ text) [] (begins_none (b ∷ text) e) (omega arith) (omega arith) h (omega arith, tt)
     go (Some n) e rest =
         let begins = begins_some (b ∷ text) n e in
         let less = (begins (omega arith)).1 in
-        joined m (b ∷ text) (take n (b ∷ text)) (drop (n + 1) (b ∷ text)) begins (omega arith) (omega (arith, h, length-take n (b ∷ text))) (rest (drop (n + 1) (b ∷ text)) (omega (arith, less)) (omega (arith, less)))
+        let front = length-take n (b ∷ text) in
+        let back = length-drop (n + 1) (b ∷ text) in
+        let most = weight_most (take n (b ∷ text)) in
+        joined m (b ∷ text) (take n (b ∷ text)) (drop (n + 1) (b ∷ text)) begins (omega arith) (omega (arith, less, front, back, most, end_inside (b ∷ text) n e)) (omega (arith, h, front))
+        (rest (drop (n + 1) (b ∷ text)) (omega (arith, less)) (omega (arith, less)))
+
+-- a line that tells an order has more than one byte
+order_long : (t : Wording) → 2 ≤ length (spelling t)
+order_long (lend p who) = omega arith
+order_long (lend_element e who) = omega arith
+order_long (paint p) = omega arith
+order_long (undo n who) = omega arith
+order_long (keep n) = omega arith
+order_long (cancel n) = omega arith
+
+weight_least : (l : List ℕ) → (1 ≤ weight l) × (length l ≤ weight l)
+weight_least [] = (omega arith, omega arith)
+weight_least (b ∷ bs) = (omega arith, omega arith)
+
+-- no more is printed for a line than six bytes a byte
+pub printed_little : (line : List ℕ) (s t : State) (a : Result ℕ Refusal) → LineAnswered line s a t → IfOk a (λ n. n ≤ 65535) → length (reply_text (reply_to a)) ≤ 6 * weight line
+printed_little line s t (Err e) one small = omega (arith, refusal_short e, (weight_least line).0)
+printed_little line s t (Ok n) one small = go one.wish one.asks one.answered
+  where
+    short : length (reply_text (reply_to (Ok n))) ≤ 9
+    short = reply_short (Ok n) small
+
+    go : (w : Option Deed) → Asks line w → Ok n ≡ answer_for s w → length (reply_text (reply_to (Ok n))) ≤ 6 * weight line
+    go None asks e = absurd cc
+    go (Some d) asks e = omega (arith, short, order_long asks.0, ap length asks.2, (weight_least line).1)
 
 -- ---- the loop
 
 one_answered : (line : List ℕ) (left : List (List ℕ)) (s t u : State) (a : Result ℕ Refusal) (items items' new : List ℕ)
-    → Answered line s a t → items' ≡ items ++ reply_text (reply_to a) → AllAnswered left t items' u new → AllAnswered (line ∷ left) s items u new
+    → LineAnswered line s a t → items' ≡ items ++ reply_text (reply_to a) → LinesAnswered left t items' u new → LinesAnswered (line ∷ left) s items u new
 one_answered line left s t u a items items' new one e all =
     let texts = ap₂ (λ (x : Result ℕ Refusal) (y : State). reply_text (reply_to x) ++ answer_lines (answers_for y all.wishes)) one.answered one.left in
     record {
@@ -94,8 +138,8 @@ one_answered line left s t u a items items' new one e all =
     }
 
 pub record Working (all : List (List ℕ)) (n : ℕ) (s₀ s : State) (old items : List ℕ) (left : List (List ℕ)) (len₀ len cap₀ cap : ℕ) : Type 0 where
-  pub rest : (t : State) (new : List ℕ) → AllAnswered left s items t new → AllAnswered all s₀ old t new
-  pub room : len + 9 * length left ≤ len₀ + 9 * n
+  pub rest : (t : State) (new : List ℕ) → LinesAnswered left s items t new → LinesAnswered all s₀ old t new
+  pub room : len + 6 * weights left ≤ len₀ + 6 * n
   pub same : cap ≡ cap₀
   pub short : AllByRecursion (λ l. length l ≤ 16384) left
   pub most : s.stock.most_marks ≤ 65535
@@ -108,19 +152,19 @@ working_first text s old left len cap short most e =
     (record { rest = λ t new h. h; room = omega (arith, small.0); same = refl; short = small.1; most = most })
 
 pub working_more : (all : List (List ℕ)) (n : ℕ) (s₀ s t : State) (old items items' : List ℕ) (line : List ℕ) (now left : List (List ℕ)) (len₀ len len' cap₀ cap cap' : ℕ) (a : Result ℕ Refusal)
-    → now ≡ line ∷ left → Working all n s₀ s old items now len₀ len cap₀ cap → Answered line s a t → IfOk a (λ n. n ≤ 65535) → items' ≡ items ++ reply_text (reply_to a)
+    → now ≡ line ∷ left → Working all n s₀ s old items now len₀ len cap₀ cap → LineAnswered line s a t → IfOk a (λ n. n ≤ 65535) → items' ≡ items ++ reply_text (reply_to a)
     → len' ≡ len + length (reply_text (reply_to a)) → cap' ≡ cap → t.stock.most_marks ≡ s.stock.most_marks → Working all n s₀ t old items' left len₀ len' cap₀ cap'
 working_more all n s₀ s t old items items' line now left len₀ len len' cap₀ cap cap' a e w one small printed longer same most =
     let here = subst (λ ls. Working all n s₀ s old items ls len₀ len cap₀ cap) e w in
     record {
       rest = λ u new h. here.rest u new (one_answered line left s t u a items items' new one printed h);
-      room = omega (arith, here.room, longer, reply_short a small);
+      room = omega (arith, here.room, longer, printed_little line s t a one small);
       same = same ∙ here.same;
       short = here.short.1;
       most = omega (arith, here.most, most);
     }
 
 pub working_last : (all : List (List ℕ)) (n : ℕ) (s₀ s : State) (old items : List ℕ) (left : List (List ℕ)) (len₀ len cap₀ cap : ℕ) → left ≡ []
-    → Working all n s₀ s old items left len₀ len cap₀ cap → AllAnswered all s₀ old s items
+    → Working all n s₀ s old items left len₀ len cap₀ cap → LinesAnswered all s₀ old s items
 working_last all n s₀ s old items left len₀ len cap₀ cap e w =
-    w.rest s items (subst (λ ls. AllAnswered ls s items s items) (sym e) (record { wishes = []; asked = tt; printed = sym (append-nil items); left = refl }))
+    w.rest s items (subst (λ ls. LinesAnswered ls s items s items) (sym e) (record { wishes = []; asked = tt; printed = sym (append-nil items); left = refl }))

@@ -1,5 +1,5 @@
 -- What a day's orders come to.
-use Rattle.std.specs.Prelude.{◌≡◌, ◌≢◌, ℕ, ◌+◌, ◌*◌, ◌<◌, min, Bool, ◌||◌, List, [], ◌∷◌, ◌++◌, length, take, Some, None, Option, Ok, Err, Result, nat_lt}
+use Rattle.std.specs.Prelude.{◌≡◌, ◌≢◌, ℕ, ◌+◌, ◌*◌, ◌<◌, Bool, ◌||◌, ◌⊎◌, List, [], ◌∷◌, ◌++◌, length, take, Some, None, Option, Ok, Err, Result, nat_lt}
 use Rattle.std.specs.Bool.{MatchBool}
 use Rattle.std.specs.List.{flat_map}
 use Rattle.refusal.specs.declared.Refusal.{Refusal}
@@ -18,7 +18,7 @@ use Rattle.orders.specs.declared.day.Ending.{Ending}
 use Rattle.orders.specs.declared.day.Ending.TheVariants.{Refused, Shipped, Scrapped}
 use Rattle.orders.specs.declared.reply.Reply.{Reply}
 use Rattle.orders.specs.declared.reply.Reply.TheVariants as replies
-use Rattle.orders.specs.Spelling.{Told, IsOrder, spelling}
+use Rattle.orders.specs.Spelling.{Wording, IsOrder, spelling}
 use Rattle.orders.specs.Orders.{deed_for}
 use Rattle.orders.specs.Lines.{lines_of}
 use Rattle.orders.specs.Replies.{reply_text, reply_to}
@@ -31,8 +31,8 @@ closing_reply Scrapped = replies.Scrap
 
 -- what a line asks for: the call that its order means, and nothing where it tells no order
 abbrev pub Asks : List ℕ → Option Deed → Type 0
-Asks line (Some d) = (t : Told) × IsOrder t × (line ≡ spelling t) × (d ≡ deed_for t)
-Asks line None = (t : Told) → IsOrder t → line ≢ spelling t
+Asks line (Some d) = (t : Wording) × IsOrder t × (line ≡ spelling t) × (d ≡ deed_for t)
+Asks line None = (t : Wording) → IsOrder t → line ≢ spelling t
 
 -- each line asks for what stands in its place
 abbrev pub EachAsks : List (List ℕ) → List (Option Deed) → Type 0
@@ -52,18 +52,18 @@ Closed s Shipped f = (length s.book.outs ≡ 0) × (f ≡ s.file)
 Closed s Scrapped f = (0 < length s.book.outs) × (f ≡ (all_cancelled s.book.outs s).file)
 
 -- what the program is given: the texture, the orders, and what was printed before
-pub record Given : Type 0 where
+pub record DayInputs : Type 0 where
   pub master : List ℕ
   pub orders : List ℕ
-  pub old : List ℕ
+  pub before : List ℕ
 
 -- one of the inputs is over its limit
-abbrev pub is_over : Given → Bool
+abbrev pub is_over : DayInputs → Bool
 is_over g = nat_lt 32768 (length g.master) || nat_lt 16384 (length g.orders)
 
 -- what opening the texture answers
-abbrev pub OpenedAs : Given → Result Layout Refusal → Type 0
-OpenedAs g r = OpenedBy (take 148 g.master) (length g.master) (name_for plain_rows) r
+abbrev pub MasterOpened : DayInputs → Result Layout Refusal → Type 0
+MasterOpened g r = OpenedBy (take 148 g.master) (length g.master) (name_for plain_rows) r
 
 -- the program's shelves at first: they have room for 64 marks and 4,096 bytes
 abbrev pub empty_stock : Stock
@@ -84,35 +84,50 @@ answers_in (Some d ∷ ws) (r ∷ rs) = r ∷ answers_in ws rs
 
 -- a day on a texture that was opened: a line is printed for each line of the orders, in their order, and one for how the day ended; the
 -- calls that the orders mean were answered by the rules, and the law holds of them, of their answers and of the file
-pub record Worked (g : Given) (ending : Ending) (file new : List ℕ) : Type 0 where
+pub record Worked (g : DayInputs) (ending : Ending) (file new : List ℕ) : Type 0 where
   pub layout : Layout
-  pub opened : OpenedAs g (Ok layout)
+  pub opened : MasterOpened g (Ok layout)
   pub wishes : List (Option Deed)
   pub asked : EachAsks (lines_of g.orders) wishes
-  pub given : List (Result ℕ Refusal)
-  pub each : length given ≡ length (calls_in wishes)
-  pub by_rules : given ≡ answers_to (opened_state layout.table 1 g.master empty_stock) (calls_in wishes)
-  pub printed : new ≡ g.old ++ (answer_lines (answers_in wishes given) ++ reply_text (closing_reply ending))
+  pub answers : List (Result ℕ Refusal)
+  pub each : length answers ≡ length (calls_in wishes)
+  pub by_rules : answers ≡ answers_to (opened_state layout.table 1 g.master empty_stock) (calls_in wishes)
+  pub printed : new ≡ g.before ++ (answer_lines (answers_in wishes answers) ++ reply_text (closing_reply ending))
   pub end : State
-  pub law : Law layout.table 1 64 4096 g.master (history_of (calls_in wishes) given) end
+  pub law : Law layout.table 1 64 4096 g.master (history_of (calls_in wishes) answers) end
   pub closed : Closed end ending file
 
 -- where no order is carried out, one line tells why, and nothing changes
-abbrev pub TurnedAway : Given → Refusal → List ℕ → List ℕ → Type 0
-TurnedAway g e file new = (file ≡ g.master) × (new ≡ g.old ++ reply_text (replies.Refused e))
+abbrev pub TurnedAway : DayInputs → Refusal → List ℕ → List ℕ → Type 0
+TurnedAway g e file new = (file ≡ g.master) × (new ≡ g.before ++ reply_text (replies.Refused e))
 
--- what a day within the limits comes to
-abbrev pub Begun : Given → Ending → List ℕ → List ℕ → Type 0
-Begun g (Refused e) file new = OpenedAs g (Err e) × TurnedAway g e file new
-Begun g Shipped file new = Worked g Shipped file new
-Begun g Scrapped file new = Worked g Scrapped file new
+-- want of memory comes only where the Vec's capacity was too small for so many bytes more, and nothing changes then
+abbrev pub OutOfRoom : DayInputs → ℕ → ℕ → ℕ → List ℕ → List ℕ → Type 0
+OutOfRoom g len capacity need file new = (capacity < len + need) × (file ≡ g.master) × (new ≡ g.before)
 
--- the most that is printed: nine bytes for each byte of the orders, and the last line
+-- the most that is printed of a day: six bytes for each byte of the orders, and the last line
 abbrev pub room_for : List ℕ → ℕ
-room_for orders = 9 * min (length orders) 16384 + 6
+room_for orders = 6 * length orders + 6
 
--- what a day comes to: want of memory comes only where the Vec's capacity was too small, and nothing changes then
-abbrev pub DayDone : {E : Type 0} → Given → ℕ → ℕ → Result Ending E → List ℕ → List ℕ → Type 0
-DayDone g len room (Ok ending) file new =
-    MatchBool (is_over g) ((ending ≡ Refused OverLimit) × TurnedAway g OverLimit file new) (Begun g ending file new)
-DayDone g len room (Err e) file new = (room < len + room_for g.orders) × (file ≡ g.master) × (new ≡ g.old)
+-- how a day within the limits ends
+abbrev pub Ended : DayInputs → Ending → List ℕ → List ℕ → Type 0
+Ended g (Refused e) file new = MasterOpened g (Err e) × TurnedAway g e file new
+Ended g Shipped file new = Worked g Shipped file new
+Ended g Scrapped file new = Worked g Scrapped file new
+
+-- what a day within the limits comes to; where the texture is not opened, six bytes are room enough
+abbrev pub Begun : {E : Type 0} → DayInputs → ℕ → ℕ → Result Ending E → List ℕ → List ℕ → Type 0
+Begun g len capacity (Ok ending) file new = Ended g ending file new
+Begun g len capacity (Err x) file new =
+    ((e : Refusal) × MasterOpened g (Err e) × OutOfRoom g len capacity 6 file new)
+    ⊎ ((y : Layout) × MasterOpened g (Ok y) × OutOfRoom g len capacity (room_for g.orders) file new)
+
+-- one line tells of a refusal
+abbrev pub Refusing : {E : Type 0} → Refusal → List ℕ → ℕ → ℕ → Result Ending E → List ℕ → Type 0
+Refusing e before len capacity (Ok ending) new = (ending ≡ Refused e) × (new ≡ before ++ reply_text (replies.Refused e))
+Refusing e before len capacity (Err x) new = (capacity < len + 6) × (new ≡ before)
+
+-- what a day comes to
+abbrev pub DayDone : {E : Type 0} → DayInputs → ℕ → ℕ → Result Ending E → List ℕ → List ℕ → Type 0
+DayDone g len capacity r file new =
+    MatchBool (is_over g) (Refusing OverLimit g.before len capacity r new × (file ≡ g.master)) (Begun g len capacity r file new)

@@ -1,8 +1,8 @@
 pub mod Spelling
 pub mod Words
-pub mod Reading
 pub mod Orders
 pub mod Replies
 pub mod Lines
 pub mod Days
+pub mod Reading
 pub mod Steps

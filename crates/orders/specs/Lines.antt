@@ -20,6 +20,6 @@ lines_of text = less_empty_end (slice_split is_end text)
 abbrev pub lines_left : Lines → List (List ℕ)
 lines_left ls = lines_of ls.rest.now
 
--- a text begins with a line, if it is not empty
+-- a text that is not empty begins with a line, and what follows the line is shorter
 abbrev pub Begins : List ℕ → List ℕ → List ℕ → Type 0
 Begins text line after = 0 < length text → (lines_of text ≡ line ∷ lines_of after) × (length after < length text)

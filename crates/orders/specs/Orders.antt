@@ -4,23 +4,38 @@ use Rattle.refusal.specs.declared.Refusal.{Refusal}
 use Rattle.refusal.specs.declared.Refusal.TheVariants.{MalformedOrder}
 use Rattle.loans.specs.Rules.{Deed}
 use Rattle.loans.specs.Rules.{Deed as calls}
+use Rattle.orders.specs.declared.digits.Digits.{Digits}
 use Rattle.orders.specs.declared.order.Order.{Order}
 use Rattle.orders.specs.declared.order.Order.TheVariants.{Loan, LoanElement, Paint, Undo, Keep, Cancel}
-use Rattle.orders.specs.Spelling.{Told, IsOrder, spelling}
-use Rattle.orders.specs.Spelling.Told.{lend, lend_element, paint, undo, keep, cancel}
-use Rattle.orders.specs.Reading.{as_told}
+use Rattle.orders.specs.Spelling.{Wording, IsOrder, spelling}
+use Rattle.orders.specs.Spelling.Wording.{lend, lend_element, paint, undo, keep, cancel}
+use Rattle.orders.specs.Words.{hex_bytes}
+
+-- the hex digits of a paint, as they stand in its line
+abbrev pub digits_of : Digits → List ℕ
+digits_of ds = ds.digits.now
+
+-- what an order is as its line words it; of a paint the bytes that its digits spell
+abbrev pub as_worded : Order → Wording
+as_worded (Loan p who) = lend p who
+as_worded (LoanElement e who) = lend_element e who
+as_worded (Paint n who row' first' ds) =
+    paint (record { loan = n; borrower = who; row = row'; first = first'; laid = hex_bytes (digits_of ds) })
+as_worded (Undo n who) = undo n who
+as_worded (Keep n) = keep n
+as_worded (Cancel n) = cancel n
 
 -- a line that is accepted spells the order; a malformed one spells none
 abbrev pub Parsed : List ℕ → Result Order Refusal → Type 0
-Parsed line (Ok o) = (line ≡ spelling (as_told o)) × IsOrder (as_told o)
-Parsed line (Err e) = (e ≡ MalformedOrder) × ((t : Told) → IsOrder t → line ≢ spelling t)
+Parsed line (Ok o) = (line ≡ spelling (as_worded o)) × IsOrder (as_worded o)
+Parsed line (Err e) = (e ≡ MalformedOrder) × ((t : Wording) → IsOrder t → line ≢ spelling t)
 
 -- no line spells two orders
 abbrev pub EachLineIsOneOrder : Type 0
-EachLineIsOneOrder = (a b : Told) → IsOrder a → IsOrder b → spelling a ≡ spelling b → a ≡ b
+EachLineIsOneOrder = (a b : Wording) → IsOrder a → IsOrder b → spelling a ≡ spelling b → a ≡ b
 
 -- the call that an order means; the short order of a loan is of level 0 and slice 0
-abbrev pub deed_for : Told → Deed
+abbrev pub deed_for : Wording → Deed
 deed_for (lend p who) = calls.lend p who
 deed_for (lend_element e who) = calls.lend (record { element = e; level = 0; slice = 0 }) who
 deed_for (paint p) = calls.paint p
@@ -28,11 +43,11 @@ deed_for (undo n who) = calls.undo n who
 deed_for (keep n) = calls.keep n
 deed_for (cancel n) = calls.cancel n
 
--- the digits are no longer than the longest order text
-abbrev pub Fits : Order → Type 0
-Fits (Loan p who) = Unit {0}
-Fits (LoanElement e who) = Unit {0}
-Fits (Paint n who r f ds) = length ds.digits.now ≤ 16384
-Fits (Undo n who) = Unit {0}
-Fits (Keep n) = Unit {0}
-Fits (Cancel n) = Unit {0}
+-- the digits of a paint are no longer than the longest order text
+abbrev pub HasShortDigits : Order → Type 0
+HasShortDigits (Loan p who) = Unit {0}
+HasShortDigits (LoanElement e who) = Unit {0}
+HasShortDigits (Paint n who r f ds) = length (digits_of ds) ≤ 16384
+HasShortDigits (Undo n who) = Unit {0}
+HasShortDigits (Keep n) = Unit {0}
+HasShortDigits (Cancel n) = Unit {0}

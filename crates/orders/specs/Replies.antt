@@ -5,10 +5,11 @@ use Rattle.refusal.specs.Numbers.{number_of}
 use Rattle.orders.specs.declared.reply.Reply.{Reply}
 use Rattle.orders.specs.declared.reply.Reply.TheVariants.{Done, Refused, Ship, Scrap}
 
--- a line: a word, digits, and the byte 0A
+-- a line: what it begins with, what follows, and the byte 0A
 abbrev pub ended : List ℕ → List ℕ → List ℕ
-ended word digits = word ++ (digits ++ 10 ∷ [])
+ended front rest = front ++ (rest ++ 10 ∷ [])
 
+-- the line that is printed, with its end
 abbrev pub reply_text : Reply → List ℕ
 reply_text (Done n) = ended (codes "ok ") (decimal n)
 reply_text (Refused r) = ended (codes "no ") (decimal (number_of r))

@@ -6,16 +6,16 @@ use Rattle.dds.specs.declared.piece.Piece.{Piece}
 use Rattle.loans.specs.Strokes.{Painting}
 
 -- an order as its line tells it, a paint with the bytes that it lays
-pub data Told : Type 0 where
-  lend : Piece → ℕ → Told
-  lend_element : ℕ → ℕ → Told
-  paint : Painting → Told
-  undo : ℕ → ℕ → Told
-  keep : ℕ → Told
-  cancel : ℕ → Told
+pub data Wording : Type 0 where
+  lend : Piece → ℕ → Wording
+  lend_element : ℕ → ℕ → Wording
+  paint : Painting → Wording
+  undo : ℕ → ℕ → Wording
+  keep : ℕ → Wording
+  cancel : ℕ → Wording
 
 -- L, P, U, K or C
-abbrev pub letter : Told → ℕ
+abbrev pub letter : Wording → ℕ
 letter (lend p who) = 76
 letter (lend_element e who) = 76
 letter (paint p) = 80
@@ -24,7 +24,7 @@ letter (keep n) = 75
 letter (cancel n) = 67
 
 -- the numbers of a line, in their order
-abbrev pub numbers : Told → List ℕ
+abbrev pub numbers : Wording → List ℕ
 numbers (lend p who) = p.element ∷ p.level ∷ p.slice ∷ who ∷ []
 numbers (lend_element e who) = e ∷ who ∷ []
 numbers (paint p) = p.loan ∷ p.borrower ∷ p.row ∷ p.first ∷ []
@@ -37,7 +37,7 @@ abbrev pub hex_pair : ℕ → List ℕ
 hex_pair b = digit_glyph false (b / 16) ∷ digit_glyph false (b % 16) ∷ []
 
 -- a paint has one word more: the digits of its bytes
-abbrev pub digits : Told → List (List ℕ)
+abbrev pub digits : Wording → List (List ℕ)
 digits (lend p who) = []
 digits (lend_element e who) = []
 digits (paint p) = flat_map hex_pair p.laid ∷ []
@@ -46,15 +46,15 @@ digits (keep n) = []
 digits (cancel n) = []
 
 -- the words of a line: the letter, each number in base ten without leading zeros, the digits
-abbrev pub words : Told → List (List ℕ)
+abbrev pub words : Wording → List (List ℕ)
 words o = (letter o ∷ []) ∷ map decimal (numbers o) ++ digits o
 
 -- the line: its words, with one space between two
-abbrev pub spelling : Told → List ℕ
+abbrev pub spelling : Wording → List ℕ
 spelling o = join_with_byte 32 (words o)
 
--- a paint lays at least one byte
-abbrev pub LaysBytes : Told → Type 0
+-- a paint lays at least one byte, each of eight bits
+abbrev pub LaysBytes : Wording → Type 0
 LaysBytes (lend p who) = Unit {0}
 LaysBytes (lend_element e who) = Unit {0}
 LaysBytes (paint p) = (0 < length p.laid) × AllByRecursion (λ b. b < 256) p.laid
@@ -62,7 +62,7 @@ LaysBytes (undo n who) = Unit {0}
 LaysBytes (keep n) = Unit {0}
 LaysBytes (cancel n) = Unit {0}
 
--- an order that a line can tell: its numbers have 32 bits
-pub record IsOrder (o : Told) : Type 0 where
+-- an order that a line can tell: its numbers have 32 bits, and a paint lays bytes
+pub record IsOrder (o : Wording) : Type 0 where
   pub numbers : AllByRecursion (λ n. n < 2 ^ 32) (numbers o)
   pub bytes : LaysBytes o

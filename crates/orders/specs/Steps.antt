@@ -1,4 +1,4 @@
--- How lines are answered one after the other.
+-- How lines are answered one after the other: what the private functions of a day do. No public contract cites this.
 use Rattle.std.specs.Prelude.{◌≡◌, ℕ, List, [], ◌∷◌, ◌++◌, Some, None, Option, Err, Result}
 use Rattle.refusal.specs.declared.Refusal.{Refusal}
 use Rattle.refusal.specs.declared.Refusal.TheVariants.{MalformedOrder}
@@ -15,7 +15,8 @@ abbrev pub after_line : State → Option Deed → State
 after_line s None = s
 after_line s (Some d) = after s d
 
-pub record Answered (line : List ℕ) (s : State) (answer : Result ℕ Refusal) (t : State) : Type 0 where
+-- a line was answered so, and left the state so
+pub record LineAnswered (line : List ℕ) (s : State) (answer : Result ℕ Refusal) (t : State) : Type 0 where
   pub wish : Option Deed
   pub asks : Asks line wish
   pub answered : answer ≡ answer_for s wish
@@ -31,7 +32,7 @@ after_lines s [] = s
 after_lines s (w ∷ ws) = after_lines (after_line s w) ws
 
 -- a line is printed for each answer
-pub record AllAnswered (lines : List (List ℕ)) (s : State) (old : List ℕ) (t : State) (new : List ℕ) : Type 0 where
+pub record LinesAnswered (lines : List (List ℕ)) (s : State) (old : List ℕ) (t : State) (new : List ℕ) : Type 0 where
   pub wishes : List (Option Deed)
   pub asked : EachAsks lines wishes
   pub printed : new ≡ old ++ answer_lines (answers_for s wishes)

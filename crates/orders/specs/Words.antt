@@ -30,13 +30,14 @@ abbrev pub nibble : ℕ → ℕ
 nibble d = cond (nat_lt d 97) (d - 48) (d - 97 + 10)
 
 -- the bytes that pairs of digits spell
-abbrev pub bytes_of : List ℕ → List ℕ
-bytes_of [] = []
-bytes_of (h ∷ []) = []
-bytes_of (h ∷ l ∷ ds) = (nibble h * 16 + nibble l) ∷ bytes_of ds
+abbrev pub hex_bytes : List ℕ → List ℕ
+hex_bytes [] = []
+hex_bytes (h ∷ []) = []
+hex_bytes (h ∷ l ∷ ds) = (nibble h * 16 + nibble l) ∷ hex_bytes ds
 
-abbrev pub bytes_at : List ℕ → Option (List ℕ)
-bytes_at ds = cond (are_pairs ds) (Some (bytes_of ds)) None
+-- the bytes that a word spells; none where it is not pairs of digits
+abbrev pub hex_bytes_at : List ℕ → Option (List ℕ)
+hex_bytes_at ds = cond (are_pairs ds) (Some (hex_bytes ds)) None
 
 -- the bytes of a part of a text, which stay in the text
 abbrev pub now_of : Bor (List ℕ) → List ℕ

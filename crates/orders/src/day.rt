@@ -7,8 +7,8 @@ ghost use Rattle.loans.specs.Scrapping.{AtHome};
 ghost use Rattle.orders.specs.Lines.{lines_of};
 ghost use Rattle.orders.specs.Replies.{reply_text, reply_to};
 ghost use Rattle.orders.specs.declared.day.Ending.TheVariants.{Refused};
-ghost use Rattle.orders.specs.Days.{closing_reply, Closed, Begun, DayDone};
-ghost use Rattle.orders.specs.Steps.{Answered, AllAnswered};
+ghost use Rattle.orders.specs.Days.{closing_reply, Closed, Refusing, Begun, DayDone};
+ghost use Rattle.orders.specs.Steps.{LineAnswered, LinesAnswered};
 
 use crate::lines::Lines;
 use crate::order::Order;
@@ -20,15 +20,22 @@ use shelf::Shelf;
 use std::alloc::AllocError;
 
 // How many bytes a texture and the orders of a day can have.
-pub const MOST_MASTER: usize = 32768;
+pub const LONGEST_MASTER: usize = 32768;
 
-pub const MOST_ORDERS: usize = 16384;
+pub const LONGEST_ORDERS: usize = 16384;
 
 const JOB_NUMBER: u32 = 1;
 
-// How many bytes the line of an answer can have, and the last line.
-const LONGEST_ANSWER: usize = 9;
+// How many strokes can be undone, and how many bytes they cover.
+const MOST_MARKS: usize = 64;
 
+const MOST_KEPT: usize = 4096;
+
+// How many bytes are printed for a byte of the orders at most: for an empty line, which is one byte, `no 26` and its end. A line that is
+// answered with a number has more bytes than one, and its answer at most nine, since loan numbers end at 65,535.
+const PRINTED_FOR_A_BYTE: usize = 6;
+
+// `scrap` or `no 27`, and its end.
 const LONGEST_ENDING: usize = 6;
 
 // How a day ends: the texture is not opened, or all loans were handed in and it ships, or it does not.
@@ -67,7 +74,7 @@ fn print(printed: &mut Vec<u8>, reply: Reply)
 fn answer(job: &mut Job, file: &mut [u8], shelves: &mut Shelves<'_>, line: &[u8]) -> Answer
     requires short { length line.now ≤ 16384 }
     requires few { (stock_of shelves.old).most_marks ≤ 65535 }
-    ensures answered { Answered line.now (state_of job.old file.old shelves.old) result (state_of job.new file.new shelves.new) }
+    ensures answered { LineAnswered line.now (state_of job.old file.old shelves.old) result (state_of job.new file.new shelves.new) }
     ensures small { IfOk result (λ number. number ≤ 65535) }
 {
     Order::parse(line)?.carry_out(job, file, shelves)
@@ -83,9 +90,9 @@ fn answer_all(
 )
     requires short { length orders.now ≤ 16384 }
     requires few { (stock_of shelves.old).most_marks ≤ 65535 }
-    requires room { vec_len printed.old + 9 * length orders.now ≤ vec_capacity printed.old }
-    ensures answered { AllAnswered (lines_of orders.now) (state_of job.old file.old shelves.old) printed.old.items (state_of job.new file.new shelves.new) printed.new.items }
-    ensures length { vec_len printed.new ≤ vec_len printed.old + 9 * length orders.now }
+    requires room { vec_len printed.old + 6 * length orders.now ≤ vec_capacity printed.old }
+    ensures answered { LinesAnswered (lines_of orders.now) (state_of job.old file.old shelves.old) printed.old.items (state_of job.new file.new shelves.new) printed.new.items }
+    ensures length { vec_len printed.new ≤ vec_len printed.old + 6 * length orders.now }
     ensures capacity { vec_capacity printed.new ≡ vec_capacity printed.old }
 {
     for line in Lines::of(orders) {
@@ -101,6 +108,7 @@ fn close(docket: Docket, job: &mut Job, file: &mut [u8], shelves: &mut Shelves<'
     ensures { Closed (state_of job.old file.old shelves.old) result file.new }
 {
     if let Err(Unspent { docket, refusal: _ }) = ship(docket, job) {
+        // cannot refuse: docket, file and shelves are the job's
         let _ = scrap(docket, job, file, shelves);
         return Ending::Scrapped;
     }
@@ -108,47 +116,48 @@ fn close(docket: Docket, job: &mut Job, file: &mut [u8], shelves: &mut Shelves<'
 }
 
 // One line tells why no order is carried out.
-fn refuse(printed: &mut Vec<u8>, refusal: Refusal) -> Ending
-    requires { vec_len printed.old + 6 ≤ vec_capacity printed.old }
-    ensures ending { result ≡ Refused refusal }
-    ensures printed { printed.new.items ≡ printed.old.items ++ reply_text (reply_to (Err refusal)) }
+fn refuse(printed: &mut Vec<u8>, refusal: Refusal) -> Result<Ending, AllocError>
+    ensures { Refusing refusal printed.old.items (vec_len printed.old) (vec_capacity printed.old) result printed.new.items }
 {
+    printed.reserve(LONGEST_ENDING)?;
     print(printed, Reply::Refused(refusal));
-    Ending::Refused(refusal)
+    Ok(Ending::Refused(refusal))
 }
 
-// A day within the limits.
-fn work(master: &mut [u8], orders: &[u8], printed: &mut Vec<u8>) -> Ending
-    requires short { length orders.now ≤ 16384 }
-    requires room { vec_len printed.old + (9 * length orders.now + 6) ≤ vec_capacity printed.old }
-    ensures { Begun (record { master = master.old; orders = orders.now; old = printed.old.items }) result master.new printed.new.items }
+// A day within the limits. No call is made before there is room for all that can be printed.
+fn work(master: &mut [u8], orders: &[u8], printed: &mut Vec<u8>) -> Result<Ending, AllocError>
+    requires { length orders.now ≤ 16384 }
+    ensures { Begun (record { master = master.old; orders = orders.now; before = printed.old.items }) (vec_len printed.old) (vec_capacity printed.old) result master.new printed.new.items }
 {
-    let mut marks = [Mark::default(); 64];
-    let mut bytes = [0; 4096];
+    let mut marks = [Mark::default(); MOST_MARKS];
+    let mut bytes = [0; MOST_KEPT];
     let mut shelves = Shelves::of(Shelf::new(&mut marks), Shelf::new(&mut bytes));
     let mut job = Job::empty();
     let docket = match job.open(master, JOB_NUMBER, &BuiltInCodes) {
         Ok(docket) => docket,
         Err(refusal) => return refuse(printed, refusal),
     };
+    if let Err(error) = printed.reserve(PRINTED_FOR_A_BYTE * orders.len() + LONGEST_ENDING) {
+        let _ = close(docket, &mut job, master, &mut shelves);
+        return Err(error);
+    }
     answer_all(&mut job, master, &mut shelves, orders, printed);
     let ending = close(docket, &mut job, master, &mut shelves);
     print(printed, Reply::from(ending));
-    ending
+    Ok(ending)
 }
 
-// Carries out a day's orders on a texture, in place, and prints behind what stands in the Vec. Where there is no memory for what is to be
+// Carries out a day's orders on a texture, in place, and prints behind what stands in the Vec. Where there is no memory for what can be
 // printed, nothing changes.
 pub fn run_day(
     master: &mut [u8],
     orders: &[u8],
     printed: &mut Vec<u8>,
 ) -> Result<Ending, AllocError>
-    ensures { DayDone (record { master = master.old; orders = orders.now; old = printed.old.items }) (vec_len printed.old) (vec_capacity printed.old) result master.new printed.new.items }
+    ensures { DayDone (record { master = master.old; orders = orders.now; before = printed.old.items }) (vec_len printed.old) (vec_capacity printed.old) result master.new printed.new.items }
 {
-    printed.reserve(LONGEST_ANSWER * orders.len().min(MOST_ORDERS) + LONGEST_ENDING)?;
-    if master.len() > MOST_MASTER || orders.len() > MOST_ORDERS {
-        return Ok(refuse(printed, Refusal::OverLimit));
+    if master.len() > LONGEST_MASTER || orders.len() > LONGEST_ORDERS {
+        return refuse(printed, Refusal::OverLimit);
     }
-    Ok(work(master, orders, printed))
+    work(master, orders, printed)
 }

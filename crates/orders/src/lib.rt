@@ -2,13 +2,14 @@
 #![tactic(auto)]
 
 mod day;
+mod decoding;
 mod digits;
 mod lines;
 mod number;
 mod order;
 mod reply;
 
-pub use day::{Ending, MOST_MASTER, MOST_ORDERS, run_day};
+pub use day::{Ending, LONGEST_MASTER, LONGEST_ORDERS, run_day};
 pub use digits::Digits;
 pub use order::Order;
 pub use reply::Reply;

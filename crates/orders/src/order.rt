@@ -2,9 +2,10 @@
 ghost use Rattle.std.specs.Prelude.{◌≡◌, ◌<◌, map, length, MatchOption};
 ghost use Rattle.std.specs.List.{slice_split};
 ghost use Rattle.std.specs.Option.{option_map};
-ghost use Rattle.orders.specs.Reading.{is_space, as_told, loan_at, paint_at, undo_at, only_at, order_of, order_at};
+ghost use Rattle.orders.specs.Reading.{is_space, loan_at, paint_at, undo_at, only_at, order_of, order_at};
+ghost use Rattle.orders.specs.Orders.{as_worded};
 ghost use Rattle.orders.specs.Words.{now_of};
-ghost use Rattle.orders.specs.Orders.{Parsed, EachLineIsOneOrder, Fits, deed_for};
+ghost use Rattle.orders.specs.Orders.{Parsed, EachLineIsOneOrder, HasShortDigits, deed_for};
 ghost use Rattle.loans.specs.Calls.{Called};
 
 use crate::digits::Digits;
@@ -46,7 +47,7 @@ pub enum Order<'a> {
 }
 
 fn loan<'a>(fields: &[&'a [u8]]) -> Option<Order<'a>>
-    ensures { option_map as_told result ≡ loan_at (map now_of fields.now) }
+    ensures { option_map as_worded result ≡ loan_at (map now_of fields.now) }
 {
     match fields {
         [element, level, slice, borrower] => Some(Order::Loan {
@@ -66,7 +67,7 @@ fn loan<'a>(fields: &[&'a [u8]]) -> Option<Order<'a>>
 }
 
 fn paint<'a>(fields: &[&'a [u8]]) -> Option<Order<'a>>
-    ensures { option_map as_told result ≡ paint_at (map now_of fields.now) }
+    ensures { option_map as_worded result ≡ paint_at (map now_of fields.now) }
 {
     let [loan, borrower, row, first, digits] = fields else {
         return None;
@@ -81,7 +82,7 @@ fn paint<'a>(fields: &[&'a [u8]]) -> Option<Order<'a>>
 }
 
 fn undo<'a>(fields: &[&'a [u8]]) -> Option<Order<'a>>
-    ensures { option_map as_told result ≡ undo_at (map now_of fields.now) }
+    ensures { option_map as_worded result ≡ undo_at (map now_of fields.now) }
 {
     let [loan, borrower] = fields else {
         return None;
@@ -103,7 +104,7 @@ fn only(fields: &[&[u8]]) -> Option<u32>
 }
 
 fn order_for<'a>(letter: char, fields: &[&'a [u8]]) -> Option<Order<'a>>
-    ensures { option_map as_told result ≡ order_of letter (map now_of fields.now) }
+    ensures { option_map as_worded result ≡ order_of letter (map now_of fields.now) }
 {
     match letter {
         'L' => loan(fields),
@@ -130,7 +131,7 @@ fn words(line: &[u8]) -> Option<ArrayVec<&[u8], 6>>
 
 impl<'a> Order<'a> {
     fn read(line: &'a [u8]) -> Option<Order<'a>>
-        ensures { option_map as_told result ≡ order_at line.now }
+        ensures { option_map as_worded result ≡ order_at line.now }
     {
         match words(line)?.as_slice() {
             [[letter], fields @ ..] => order_for(char::from(*letter), fields),
@@ -154,19 +155,18 @@ impl<'a> Order<'a> {
         file: &mut [u8],
         shelves: &mut Shelves<'_>,
     ) -> Answer
-        requires { Fits self }
-        ensures { Called (deed_for (as_told self.entry)) job.old file.old shelves.old result job.new file.new shelves.new }
+        requires { HasShortDigits self }
+        ensures { Called (deed_for (as_worded self.entry)) job.old file.old shelves.old result job.new file.new shelves.new }
     {
         let call = match self {
             Order::Loan { piece, borrower } => Call::Loan { piece, borrower },
-            Order::LoanElement { element, borrower } => Call::Loan {
-                piece: Piece {
+            Order::LoanElement { element, borrower } => {
+                let piece = Piece {
                     element,
-                    level: 0,
-                    slice: 0,
-                },
-                borrower,
-            },
+                    ..Piece::default()
+                };
+                Call::Loan { piece, borrower }
+            }
             Order::Paint {
                 loan,
                 borrower,

@@ -1,5 +1,5 @@
 // Whole days, from the texture and the orders to what is printed and how the texture ends.
-use orders::{Ending, MOST_MASTER, MOST_ORDERS, run_day};
+use orders::{Ending, LONGEST_MASTER, LONGEST_ORDERS, run_day};
 use refusal::Refusal;
 use std::alloc::{AllocGlobal, Global};
 use std::process::Abort;
@@ -132,10 +132,10 @@ fn files_that_are_not_opened(rt: HostRuntime) -> Result<(), Fail> {
 fn longest_text(rt: HostRuntime) -> Result<(), Fail> {
     let mut file = tiny(rt.alloc())?;
     let mut orders = Vec::new(rt.alloc());
-    orders.resize(MOST_ORDERS, b'\n')?;
+    orders.resize(LONGEST_ORDERS, b'\n')?;
     let mut printed = Vec::new(rt.alloc());
     assert_eq!(rt; run_day(&mut file, &orders, &mut printed)?, Ending::Shipped);
-    assert_eq!(rt; printed.len(), MOST_ORDERS * 6 + 5);
+    assert_eq!(rt; printed.len(), LONGEST_ORDERS * 6 + 5);
     printed.clear();
     orders.push(b'\n')?;
     let over = Ending::Refused(Refusal::OverLimit);
@@ -148,9 +148,9 @@ fn longest_text(rt: HostRuntime) -> Result<(), Fail> {
 #[test]
 fn longest_texture(rt: HostRuntime) -> Result<(), Fail> {
     let mut pixels = Vec::new(rt.alloc());
-    pixels.resize(MOST_MASTER - 128, 7)?;
+    pixels.resize(LONGEST_MASTER - 128, 7)?;
     let mut file = texture(rt.alloc(), (255, 128), 1, (0x20000, 0, 8), &pixels)?;
-    assert_eq!(rt; file.len(), MOST_MASTER);
+    assert_eq!(rt; file.len(), LONGEST_MASTER);
     check_day(&rt, &file, b"", Ending::Shipped, b"ship\n", &pixels)?;
     file.push(7)?;
     let mut printed = Vec::new(rt.alloc());

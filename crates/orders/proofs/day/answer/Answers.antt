@@ -1,6 +1,6 @@
 use Rattle.std.proofs.Common.{Some, refl}
 use Rattle.loans.proofs.Calling.{called_answer, called_state}
-use Rattle.orders.specs.Reading.{as_told}
+use Rattle.orders.specs.Orders.{as_worded}
 use Rattle.orders.specs.Orders.{deed_for}
 use Rattle.orders.proofs.Answering.{order_fits, answer_small}
 use Rattle.orders.proofs.day.answer.Goals as goal
@@ -10,7 +10,7 @@ carry_out-requires c = order_fits c.args.line.now c.in_ok-parse.field-0 c.in_ok-
 
 pub returns-clause-answered : goal.returns-clause-answered
 returns-clause-answered c =
-    let order = as_told c.in_ok-parse.field-0 in
+    let order = as_worded c.in_ok-parse.field-0 in
     let line = c.in_ok-parse.ensures.line in
     record {
       wish = Some (deed_for order);
@@ -20,4 +20,4 @@ returns-clause-answered c =
     }
 
 pub returns-clause-small : goal.returns-clause-small
-returns-clause-small c = answer_small (deed_for (as_told c.in_ok-parse.field-0)) _ _ _ _ _ _ _ c.carry_out.ensures c.requires.few
+returns-clause-small c = answer_small (deed_for (as_worded c.in_ok-parse.field-0)) _ _ _ _ _ _ _ c.carry_out.ensures c.requires.few

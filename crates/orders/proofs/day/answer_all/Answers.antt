@@ -3,7 +3,7 @@ use Rattle.loans.specs.Strokes.{state_of}
 use Rattle.orders.specs.Lines.{lines_left}
 use Rattle.orders.specs.Replies.{reply_text}
 use Rattle.orders.proofs.Answering.{answered_most}
-use Rattle.orders.proofs.Working.{reply_short, working_first, working_more}
+use Rattle.orders.proofs.Working.{weights, printed_little, working_first, working_more}
 use Rattle.orders.proofs.day.answer_all.Goals as goal
 
 pub loop-line-init : goal.loop-line-init
@@ -12,8 +12,8 @@ loop-line-init c =
 
 pub print-requires : goal.print-requires
 print-requires c =
-    let short = reply_short c.answer-answer.result c.answer-answer.ensures.small in
-    omega (arith, c.loop-line.invariant.room, c.loop-line.invariant.same, c.requires.room, short, ap (λ r. length (reply_text r)) c.from.ensures, ap length c.in-Some.ensures.steps)
+    let little = printed_little c.in-Some.line.now _ _ c.answer-answer.result c.answer-answer.ensures.answered c.answer-answer.ensures.small in
+    omega (arith, c.loop-line.invariant.room, c.loop-line.invariant.same, c.requires.room, little, ap (λ r. length (reply_text r)) c.from.ensures, ap weights c.in-Some.ensures.steps)
 
 pub loop-line-preserved : goal.loop-line-preserved
 loop-line-preserved c =
