@@ -1,7 +1,6 @@
 -- A day on a texture that was opened.
-use Rattle.std.proofs.Common.{arith, append-nil, ◌≡◌, ℕ, min, List, [], ◌∷◌, ◌++◌, length, take, Some, None, Option, Ok, Err, Result, refl, sym, ap, ◌∙◌, subst, append_assoc}
+use Rattle.std.proofs.Common.{arith, append-nil, ◌≡◌, ℕ, min, List, [], ◌++◌, length, take, Some, None, Option, Ok, Err, Result, refl, sym, ap, ◌∙◌, subst, append_assoc}
 use Rattle.refusal.specs.declared.Refusal.{Refusal}
-use Rattle.refusal.specs.declared.Refusal.TheVariants.{MalformedOrder}
 use Rattle.formats.specs.declared.kinds.FormatName.{FormatName}
 use Rattle.formats.specs.Codes.{name_for, plain_rows}
 use Rattle.dds.specs.declared.header.Header.{Header}
@@ -17,7 +16,7 @@ use Rattle.loans.specs.declared.job.Job.{Job}
 use Rattle.loans.specs.declared.mark.Shelves.{Shelves}
 use Rattle.loans.specs.Jobs.{book_of, fresh_book}
 use Rattle.loans.specs.Strokes.{State, state_of}
-use Rattle.loans.specs.Rules.{Deed, answer_to, after, answers_to, after_all}
+use Rattle.loans.specs.Rules.{Deed, answers_to, after_all}
 use Rattle.loans.specs.History.{history_of}
 use Rattle.loans.specs.Law.{Law}
 use Rattle.loans.specs.Runs.{opened_state}
@@ -29,7 +28,7 @@ use Rattle.orders.specs.declared.day.Ending.TheVariants.{Refused, Shipped, Scrap
 use Rattle.orders.specs.Lines.{lines_of}
 use Rattle.orders.specs.Replies.{reply_text}
 use Rattle.orders.specs.Days.{DayInputs, MasterOpened, empty_stock, answer_lines, Closed, closing_reply, calls_in, answers_in, Worked, Ended}
-use Rattle.orders.specs.Steps.{answers_for, after_lines, LinesAnswered}
+use Rattle.orders.specs.Steps.{LinesAnswered}
 
 -- a layout has its file's length
 by_name : (head : List ℕ) (n : ℕ) (name : Option FormatName) (y : Layout) → layouts.OpenedAs head n name (Ok y) → y.table.length ≡ n
@@ -42,17 +41,6 @@ by_header head n names (Ok header) y h = by_name head n (header_name names heade
 
 opened_length : (head : List ℕ) (n : ℕ) (names : ℕ → Option FormatName) (y : Layout) → OpenedBy head n names (Ok y) → y.table.length ≡ n
 opened_length head n names y h = by_header head n names (header_read head n) y h
-
--- lines are answered as the calls that they ask for
-left_by_calls : (s : State) (ws : List (Option Deed)) → after_lines s ws ≡ after_all s (calls_in ws)
-left_by_calls s [] = refl
-left_by_calls s (None ∷ ws) = left_by_calls s ws
-left_by_calls s (Some d ∷ ws) = left_by_calls (after s d) ws
-
-answered_by_calls : (s : State) (ws : List (Option Deed)) → answers_for s ws ≡ answers_in ws (answers_to s (calls_in ws))
-answered_by_calls s [] = refl
-answered_by_calls s (None ∷ ws) = ap (λ rs. Err MalformedOrder ∷ rs) (answered_by_calls s ws)
-answered_by_calls s (Some d ∷ ws) = ap (λ rs. answer_to s d ∷ rs) (answered_by_calls (after s d) ws)
 
 -- the program's job and shelves, just opened
 pub first_state : (g : DayInputs) (j : Job) (v : Shelves) (marks : Shelf Mark) (bytes : Shelf ℕ) (lent_marks : List Mark) (lent_bytes : List ℕ) → book_of j ≡ fresh_book j.layout.table (Some 1)
@@ -77,7 +65,7 @@ module _ (g : DayInputs) (y : Layout) (opened : MasterOpened g (Ok y)) where
     calls = calls_in all.wishes
 
     end : s ≡ after_all first calls
-    end = all.left ∙ left_by_calls s₀ all.wishes ∙ ap (λ (x : State). after_all x calls) same
+    end = all.left ∙ ap (λ (x : State). after_all x calls) same
 
     law : Law y.table 1 64 4096 g.master (history_of calls (answers_to first calls)) s
     law = subst (Law y.table 1 64 4096 g.master (history_of calls (answers_to first calls))) (sym end) (law_run y 1 g.master empty_stock calls sized refl refl)
@@ -115,7 +103,7 @@ module _ (g : DayInputs) (y : Layout) (opened : MasterOpened g (Ok y)) where
       by_rules = refl;
       printed =
           printed
-          ∙ ap (λ xs. xs ++ reply_text (closing_reply ending)) (all.printed ∙ ap (λ rs. g.before ++ answer_lines rs) (ap (λ (x : State). answers_for x all.wishes) same ∙ answered_by_calls first all.wishes))
+          ∙ ap (λ xs. xs ++ reply_text (closing_reply ending)) (all.printed ∙ ap (λ (x : State). g.before ++ answer_lines (answers_in all.wishes (answers_to x (calls_in all.wishes)))) same)
           ∙ append_assoc g.before _ _;
       end = s;
       law = law (lines_of g.orders) s₀ s new same all;

@@ -7,14 +7,14 @@ use Rattle.std.proofs.lemmas.Fmt.{length-decimal-le}
 use Rattle.refusal.specs.declared.Refusal.{Refusal}
 use Rattle.refusal.specs.declared.Refusal.TheVariants.{WrongLength, WrongMagic, WrongHeaderSize, ShortExtendedHeader, UnknownFormat, NoShape, OutOfRange, TooManyLevels, WrongEnd, NoSuchPiece, PastFileEnd, OtherLength, PieceOut, TooManyLoans, NumbersUsedUp, LoanNotOut, OtherBorrower, ForeignShelves, OutsideRow, NoSpace, NothingToUndo, OtherDocket, LoansOut, ShelfFull, PastCount, MalformedOrder, OverLimit}
 use Rattle.refusal.specs.Numbers.{number_of}
-use Rattle.loans.specs.Rules.{Deed}
+use Rattle.loans.specs.Rules.{Deed, answers_to, after_all}
 use Rattle.loans.specs.Strokes.{State}
 use Rattle.orders.specs.Replies.{reply_text, reply_to}
 use Rattle.orders.specs.Spelling.{Wording, spelling}
 use Rattle.orders.specs.Spelling.Wording.{lend, lend_element, paint, undo, keep, cancel}
 use Rattle.orders.specs.Lines.{lines_of, is_end, Begins}
-use Rattle.orders.specs.Days.{Asks, answer_lines}
-use Rattle.orders.specs.Steps.{answer_for, LineAnswered, answers_for, after_lines, LinesAnswered}
+use Rattle.orders.specs.Days.{Asks, answer_lines, calls_in, answers_in}
+use Rattle.orders.specs.Steps.{answer_for, after_line, LineAnswered, LinesAnswered}
 use Rattle.orders.proofs.Cutting.{begins_none, begins_some, end_inside}
 
 -- ---- a line is short
@@ -128,14 +128,24 @@ printed_little line s t (Ok n) one small = go one.wish one.asks one.answered
 
 one_answered : (line : List ℕ) (left : List (List ℕ)) (s t u : State) (a : Result ℕ Refusal) (items items' new : List ℕ)
     → LineAnswered line s a t → items' ≡ items ++ reply_text (reply_to a) → LinesAnswered left t items' u new → LinesAnswered (line ∷ left) s items u new
-one_answered line left s t u a items items' new one e all =
-    let texts = ap₂ (λ (x : Result ℕ Refusal) (y : State). reply_text (reply_to x) ++ answer_lines (answers_for y all.wishes)) one.answered one.left in
-    record {
-      wishes = one.wish ∷ all.wishes;
-      asked = (one.asks, all.asked);
-      printed = all.printed ∙ ap (λ xs. xs ++ answer_lines (answers_for t all.wishes)) e ∙ append_assoc items _ _ ∙ ap (λ xs. items ++ xs) texts;
-      left = all.left ∙ ap (λ (y : State). after_lines y all.wishes) one.left;
-    }
+one_answered line left s t u a items items' new one e all = record {
+  wishes = one.wish ∷ all.wishes;
+  asked = (one.asks, all.asked);
+  printed = all.printed ∙ ap (λ xs. xs ++ rest t) e ∙ append_assoc items _ _ ∙ ap (λ xs. items ++ xs) (texts one.wish one.answered one.left);
+  left = all.left ∙ ap (λ (x : State). after_all x (calls_in all.wishes)) one.left ∙ after_one one.wish;
+}
+  where
+    rest : State → List ℕ
+    rest x = answer_lines (answers_in all.wishes (answers_to x (calls_in all.wishes)))
+
+    texts : (w : Option Deed) → a ≡ answer_for s w → t ≡ after_line s w
+        → reply_text (reply_to a) ++ rest t ≡ answer_lines (answers_in (w ∷ all.wishes) (answers_to s (calls_in (w ∷ all.wishes))))
+    texts None x y = ap₂ (λ (r : Result ℕ Refusal) (z : State). reply_text (reply_to r) ++ rest z) x y
+    texts (Some d) x y = ap₂ (λ (r : Result ℕ Refusal) (z : State). reply_text (reply_to r) ++ rest z) x y
+
+    after_one : (w : Option Deed) → after_all (after_line s w) (calls_in all.wishes) ≡ after_all s (calls_in (w ∷ all.wishes))
+    after_one None = refl
+    after_one (Some d) = refl
 
 pub record Working (all : List (List ℕ)) (n : ℕ) (s₀ s : State) (old items : List ℕ) (left : List (List ℕ)) (len₀ len cap₀ cap : ℕ) : Type 0 where
   pub rest : (t : State) (new : List ℕ) → LinesAnswered left s items t new → LinesAnswered all s₀ old t new

@@ -1,5 +1,5 @@
 -- What a day's orders come to.
-use Rattle.std.specs.Prelude.{◌≡◌, ◌≢◌, ℕ, ◌+◌, ◌*◌, ◌<◌, Bool, ◌||◌, ◌⊎◌, List, [], ◌∷◌, ◌++◌, length, take, Some, None, Option, Ok, Err, Result, nat_lt}
+use Rattle.std.specs.Prelude.{◌≡◌, ℕ, ◌+◌, ◌*◌, ◌<◌, Bool, ◌||◌, ◌⊎◌, List, [], ◌∷◌, ◌++◌, length, take, Some, None, Option, Ok, Err, Result, nat_lt}
 use Rattle.std.specs.Bool.{MatchBool}
 use Rattle.std.specs.List.{flat_map}
 use Rattle.refusal.specs.declared.Refusal.{Refusal}
@@ -19,7 +19,7 @@ use Rattle.orders.specs.declared.day.Ending.TheVariants.{Refused, Shipped, Scrap
 use Rattle.orders.specs.declared.reply.Reply.{Reply}
 use Rattle.orders.specs.declared.reply.Reply.TheVariants as replies
 use Rattle.orders.specs.Spelling.{Wording, IsOrder, spelling}
-use Rattle.orders.specs.Orders.{deed_for}
+use Rattle.orders.specs.Orders.{SpellsNone, deed_for}
 use Rattle.orders.specs.Lines.{lines_of}
 use Rattle.orders.specs.Replies.{reply_text, reply_to}
 
@@ -32,7 +32,7 @@ closing_reply Scrapped = replies.Scrap
 -- what a line asks for: the call that its order means, and nothing where it tells no order
 abbrev pub Asks : List ℕ → Option Deed → Type 0
 Asks line (Some d) = (t : Wording) × IsOrder t × (line ≡ spelling t) × (d ≡ deed_for t)
-Asks line None = (t : Wording) → IsOrder t → line ≢ spelling t
+Asks line None = SpellsNone line
 
 -- each line asks for what stands in its place
 abbrev pub EachAsks : List (List ℕ) → List (Option Deed) → Type 0

@@ -25,10 +25,14 @@ as_worded (Undo n who) = undo n who
 as_worded (Keep n) = keep n
 as_worded (Cancel n) = cancel n
 
+-- the line spells no order
+abbrev pub SpellsNone : List ℕ → Type 0
+SpellsNone line = (t : Wording) → IsOrder t → line ≢ spelling t
+
 -- a line that is accepted spells the order; a malformed one spells none
 abbrev pub Parsed : List ℕ → Result Order Refusal → Type 0
 Parsed line (Ok o) = (line ≡ spelling (as_worded o)) × IsOrder (as_worded o)
-Parsed line (Err e) = (e ≡ MalformedOrder) × ((t : Wording) → IsOrder t → line ≢ spelling t)
+Parsed line (Err e) = (e ≡ MalformedOrder) × SpellsNone line
 
 -- no line spells two orders
 abbrev pub EachLineIsOneOrder : Type 0

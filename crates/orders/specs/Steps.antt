@@ -1,10 +1,10 @@
 -- How lines are answered one after the other: what the private functions of a day do. No public contract cites this.
-use Rattle.std.specs.Prelude.{◌≡◌, ℕ, List, [], ◌∷◌, ◌++◌, Some, None, Option, Err, Result}
+use Rattle.std.specs.Prelude.{◌≡◌, ℕ, List, ◌++◌, Some, None, Option, Err, Result}
 use Rattle.refusal.specs.declared.Refusal.{Refusal}
 use Rattle.refusal.specs.declared.Refusal.TheVariants.{MalformedOrder}
 use Rattle.loans.specs.Strokes.{State}
-use Rattle.loans.specs.Rules.{Deed, answer_to, after}
-use Rattle.orders.specs.Days.{Asks, EachAsks, answer_lines}
+use Rattle.loans.specs.Rules.{Deed, answer_to, after, answers_to, after_all}
+use Rattle.orders.specs.Days.{Asks, EachAsks, answer_lines, calls_in, answers_in}
 
 -- what is answered to a line, and what it leaves
 abbrev pub answer_for : State → Option Deed → Result ℕ Refusal
@@ -22,18 +22,9 @@ pub record LineAnswered (line : List ℕ) (s : State) (answer : Result ℕ Refus
   pub answered : answer ≡ answer_for s wish
   pub left : t ≡ after_line s wish
 
--- the same of lines, one after the other
-abbrev pub answers_for : State → List (Option Deed) → List (Result ℕ Refusal)
-answers_for s [] = []
-answers_for s (w ∷ ws) = answer_for s w ∷ answers_for (after_line s w) ws
-
-abbrev pub after_lines : State → List (Option Deed) → State
-after_lines s [] = s
-after_lines s (w ∷ ws) = after_lines (after_line s w) ws
-
--- a line is printed for each answer
+-- the calls that lines ask for were made one after the other, and a line is printed for each line
 pub record LinesAnswered (lines : List (List ℕ)) (s : State) (old : List ℕ) (t : State) (new : List ℕ) : Type 0 where
   pub wishes : List (Option Deed)
   pub asked : EachAsks lines wishes
-  pub printed : new ≡ old ++ answer_lines (answers_for s wishes)
-  pub left : t ≡ after_lines s wishes
+  pub printed : new ≡ old ++ answer_lines (answers_in wishes (answers_to s (calls_in wishes)))
+  pub left : t ≡ after_all s (calls_in wishes)
