@@ -8,12 +8,16 @@ use Rattle.formats.specs.Extents.{Bounded, extent_of, is_side}
 use Rattle.dds.specs.declared.table.Sides.{Sides}
 use Rattle.dds.specs.Levels.{side_at}
 use Rattle.dds.specs.Plans.{size_at, begin_at}
-use Rattle.dds.specs.Tables.{InRange, sides_at, level_at, level_with}
+use Rattle.dds.specs.Tables.{InRange, level_at, level_with}
 use Rattle.dds.proofs.Halving.{side_some, side_few, side_step}
 
 -- a family's law, for all sides in range
 abbrev pub Lawful : (ℕ → ℕ → ℕ) → (ℕ → ℕ → ℕ) → Type 0
 Lawful row_bytes rows = (w h : ℕ) → 1 ≤ w → w ≤ 16384 → 1 ≤ h → h ≤ 16384 → Bounded row_bytes rows w h
+
+-- the sides of a level, from those of the first
+abbrev pub sides_at : Sides → ℕ → Sides
+sides_at s level = record { width = side_at s.width level; height = side_at s.height level; depth = side_at s.depth level }
 
 module _ (row_bytes rows : ℕ → ℕ → ℕ) (law : Lawful row_bytes rows) (s : Sides) (r : InRange s) where
   pub lawful_at : (k : ℕ) → Bounded row_bytes rows (side_at s.width k) (side_at s.height k)

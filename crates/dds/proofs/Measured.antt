@@ -13,7 +13,8 @@ use Rattle.dds.specs.declared.piece.Piece.{Piece}
 use Rattle.dds.specs.declared.shape.Shape.{Shape}
 use Rattle.dds.specs.Headers.{header_of, header_read}
 use Rattle.dds.specs.Levels.{levels_of, side_at, longest_chain}
-use Rattle.dds.specs.Shapes.{shape_of, elements_of, depth_of, limit_of, within, is_in_range, largest_side, judged, shape_read}
+use Rattle.formats.specs.Extents.{within}
+use Rattle.dds.specs.Shapes.{shape_of, elements_of, depth_of, limit_of, is_in_range, largest_side, judged, shape_read}
 use Rattle.dds.specs.Plans.{Plan, plan_of, size_at, end_of, stride_of, begin_at}
 use Rattle.dds.specs.Pieces.{Placed, FitsPlan, Exists, pieces_of}
 use Rattle.dds.specs.Layouts.{Fits, Opened, OpenedAs, OpenedIn, OpenedBy, Turned, refusal_of, first_refusal, err_of, pieces_in}

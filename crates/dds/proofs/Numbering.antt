@@ -2,6 +2,7 @@
 use Rattle.std.proofs.Common.{◌≡◌, ℕ, zero, suc, ◌+◌, ◌-◌, ◌*◌, ◌/◌, ◌%◌, ◌<◌, ◌≤◌, List, [], ◌∷◌, ◌++◌, length, Some, None, Option, sym, refl, ap, ◌∙◌, subst, le_refl, add-zero, add-suc, suc-mul, suc-add, div-add-mod', zero-add, arith, length-append, take, drop, map, get_or, add-one, sum_by}
 use Rattle.std.proofs.lemmas.List.Sums.{sum_by_more}
 use Rattle.dds.specs.Tables.{blank}
+use Rattle.std.specs.List.{slice_get}
 use Rattle.std.specs.Option.{option_map, unwrap_or}
 use Rattle.std.proofs.lemmas.Option.{none-some}
 use Rattle.std.proofs.Math.Seq.{drop-nil}
@@ -13,14 +14,14 @@ use Rattle.dds.specs.declared.table.Table.{Table}
 use Rattle.dds.specs.Sound.{slices_in, size_in, plan_in, Counted, Chained}
 use Rattle.dds.specs.Plans.{Plan, begin_at, stride_of}
 use Rattle.dds.specs.Pieces.{Placed, slices_from, levels_from, elements_from, pieces_of}
-use Rattle.dds.specs.Counts.{numbered, count_at, piece_numbered}
+use Rattle.dds.specs.Counts.{count_at, piece_numbered}
 
 abbrev pub piece_at : ℕ → ℕ → ℕ → Piece
 piece_at e l s = record { element = e; level = l; slice = s }
 
 -- the piece at a number of a list
 abbrev pub pick : List Placed → ℕ → Option Piece
-pick xs n = option_map (λ (x : Placed). x.piece) (numbered xs n)
+pick xs n = option_map (λ (x : Placed). x.piece) (slice_get xs n)
 
 pick_left : (xs ys : List Placed) (n : ℕ) → n < length xs → pick (xs ++ ys) n ≡ pick xs n
 pick_left [] ys n h = absurd (omega arith)
@@ -233,14 +234,14 @@ module _ (layout : Layout) (per : ℕ) (all : per ≡ count_at (slices_in layout
   rest_below n h = let m = mod_below n per per_some in omega arith
 
 -- where a list has an entry at a number, what is left from there on begins with it
-pub numbered_left : (xs : List Placed) (n : ℕ) (p : Piece) → option_map (λ (x : Placed). x.piece) (numbered xs n) ≡ Some p
+pub numbered_left : (xs : List Placed) (n : ℕ) (p : Piece) → option_map (λ (x : Placed). x.piece) (slice_get xs n) ≡ Some p
     → (drop n (map (λ (x : Placed). x.piece) xs) ≡ p ∷ drop (suc n) (map (λ (x : Placed). x.piece) xs)) × (n < length xs)
 numbered_left [] n p e = absurd (none-some p e)
 numbered_left (x ∷ xs) zero p e = (ap (λ q. q ∷ map (λ (y : Placed). y.piece) xs) (ap (λ (o : Option Piece). unwrap_or o p) e), omega arith)
 numbered_left (x ∷ xs) (suc n) p e = let r = numbered_left xs n p e in (r.0, omega arith)
 
 -- else nothing is left
-pub numbered_past : (xs : List Placed) (n : ℕ) → option_map (λ (x : Placed). x.piece) (numbered xs n) ≡ None
+pub numbered_past : (xs : List Placed) (n : ℕ) → option_map (λ (x : Placed). x.piece) (slice_get xs n) ≡ None
     → drop n (map (λ (x : Placed). x.piece) xs) ≡ []
 numbered_past [] n e = drop-nil n
 numbered_past (x ∷ xs) zero e = absurd (none-some x.piece (sym e))

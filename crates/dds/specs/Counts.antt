@@ -1,5 +1,6 @@
 -- The pieces of a file by number, in the order of the file.
-use Rattle.std.specs.Prelude.{◌≡◌, ℕ, zero, suc, ◌+◌, ◌<◌, ◌≤◌, List, [], ◌∷◌, Some, None, Option, map, drop, slice_index_or}
+use Rattle.std.specs.Prelude.{◌≡◌, ℕ, zero, suc, ◌+◌, ◌<◌, ◌≤◌, List, Some, None, Option, map, drop, slice_index_or}
+use Rattle.std.specs.List.{slice_get}
 use Rattle.std.specs.Option.{option_map}
 use Rattle.dds.specs.declared.layout.Layout.{Layout}
 use Rattle.dds.specs.declared.level.Level.{Level}
@@ -8,12 +9,6 @@ use Rattle.dds.specs.declared.pieces.Pieces.{Pieces}
 use Rattle.dds.specs.Pieces.{Placed}
 use Rattle.dds.specs.Layouts.{pieces_in}
 use Rattle.dds.specs.Tables.{blank}
-
--- the entry of a list at a number, from 0 on
-abbrev pub numbered : List Placed → ℕ → Option Placed
-numbered [] n = None
-numbered (x ∷ xs) zero = Some x
-numbered (x ∷ xs) (suc n) = numbered xs n
 
 -- the pieces of the first levels of an element
 abbrev pub count_at : (ℕ → ℕ) → ℕ → ℕ
@@ -36,4 +31,4 @@ pieces_left pieces = drop pieces.next (names_in pieces.layout.now)
 
 -- the piece with that number in the layout's list
 abbrev pub piece_numbered : Layout → ℕ → Option Piece
-piece_numbered layout n = option_map (λ (x : Placed). x.piece) (numbered (pieces_in layout) n)
+piece_numbered layout n = option_map (λ (x : Placed). x.piece) (slice_get (pieces_in layout) n)

@@ -37,6 +37,7 @@ abbrev pub AcceptedWith : (Layout → Type 0) → Result Layout Refusal → Type
 AcceptedWith P (Ok layout) = P layout
 AcceptedWith P (Err e) = ⊥
 
+-- every such file is accepted
 abbrev pub Opens : ℕ → ℕ → ℕ → ℕ → Shape → FormatName → ℕ → Type 0
 Opens width height levels begin shape name n = Answers width height levels begin shape name n (AcceptedWith (λ _. Unit {0}))
 
@@ -44,9 +45,11 @@ Opens width height levels begin shape name n = Answers width height levels begin
 abbrev pub Whose : ℕ → Result (Option (Piece × ℕ)) Refusal → Layout → Type 0
 Whose place answer layout = (r : Result (Option (Piece × ℕ)) Refusal) → WhoseIs layout place r → r ≡ answer
 
+-- the one image of a level of the first element
 abbrev pub level_of : ℕ → Piece
 level_of n = record { element = 0; level = n; slice = 0 }
 
+-- the twelve figures
 pub record Figures : Type 0 where
   pub plain : Opens 256 256 9 128 (Flat 1) (Linear 24) 262271
   pub one_more : Answers 256 256 9 128 (Flat 1) (Linear 24) 262272 (λ r. r ≡ Err WrongEnd)

@@ -1,36 +1,36 @@
 -- What stands in a DDS header, when a header is refused, and which format it names.
-use Rattle.std.specs.Prelude.{ℕ, ◌+◌, ◌*◌, Bool, cond, not, ◌&&◌, ◌||◌, List, length, Ok, Err, Option, Result, ◌==◌, bit_and, nat_le, nat_lt, slice_index}
+use Rattle.std.specs.Prelude.{ℕ, ◌+◌, ◌*◌, Bool, cond, not, ◌&&◌, ◌||◌, List, length, Ok, Err, Option, Result, ◌==◌, nat_le, nat_lt, slice_index}
 use Rattle.refusal.specs.declared.Refusal.{Refusal}
 use Rattle.refusal.specs.declared.Refusal.TheVariants.{WrongLength, WrongMagic, WrongHeaderSize, ShortExtendedHeader}
 use Rattle.formats.specs.declared.kinds.FormatName.{FormatName}
 use Rattle.formats.specs.Codes.{name_for, dxgi_rows}
-use Rattle.formats.specs.BitCounts.{name_by_bit_count}
+use Rattle.formats.specs.BitCounts.{is_set, name_by_bit_count}
 use Rattle.dds.specs.declared.header.Header.{Header}
 
 -- the number whose lowest byte stands at a place; a byte that is not there counts as 0
-abbrev pub word : List ℕ → ℕ → ℕ
-word bytes place =
+abbrev pub number_at : List ℕ → ℕ → ℕ
+number_at bytes place =
     slice_index bytes place + slice_index bytes (place + 1) * 256 + slice_index bytes (place + 2) * 65536 + slice_index bytes (place + 3) * 16777216
 
 -- the fields, by their places in the file
 unfoldable pub header_of : List ℕ → Header
 header_of head =
     record {
-      header_size = word head 4;
-      flags = word head 8;
-      height = word head 12;
-      width = word head 16;
-      depth = word head 24;
-      level_count = word head 28;
-      pixel_format_size = word head 76;
-      pixel_flags = word head 80;
-      code = word head 84;
-      bit_count = word head 88;
-      caps2 = word head 112;
-      dxgi_code = word head 128;
-      dimension = word head 132;
-      misc = word head 136;
-      array_size = word head 140;
+      header_size = number_at head 4;
+      flags = number_at head 8;
+      height = number_at head 12;
+      width = number_at head 16;
+      depth = number_at head 24;
+      level_count = number_at head 28;
+      pixel_format_size = number_at head 76;
+      pixel_flags = number_at head 80;
+      code = number_at head 84;
+      bit_count = number_at head 88;
+      caps2 = number_at head 112;
+      dxgi_code = number_at head 128;
+      dimension = number_at head 132;
+      misc = number_at head 136;
+      array_size = number_at head 140;
     }
 
 -- the file begins with the bytes 44 44 53 20
@@ -39,7 +39,7 @@ has_magic head = nat_le 4 (length head) && (slice_index head 0 == 0x44 && (slice
 
 -- the code decides the format, whatever other pixel flags are set
 abbrev pub code_decides : Header → Bool
-code_decides h = not (bit_and h.pixel_flags 0x4 == 0)
+code_decides h = is_set h.pixel_flags 0x4
 
 -- the code is the letters DX10, and it counts
 abbrev pub is_extended : Header → Bool

@@ -48,10 +48,12 @@ pub record Fits (h : Header) (row_bytes rows : ℕ → ℕ → ℕ) (n : ℕ) (p
   pub has : shape_of h ≡ Some shape
   pub fits : FitsPlan (plan_of h shape row_bytes rows) n ps
 
+-- the refusal that a result carries, if any
 abbrev pub err_of : Result Shape Refusal → Option Refusal
 err_of (Err e) = Some e
 err_of (Ok s) = None
 
+-- that of the header, else that of the shape
 abbrev pub first_refusal : Result Header Refusal → Option Refusal
 first_refusal (Err e) = Some e
 first_refusal (Ok h) = err_of (shape_read h)
@@ -81,10 +83,12 @@ Opened head n row_bytes rows (Ok layout) = Accepted head n row_bytes rows layout
 Opened head n row_bytes rows (Err e) =
     Turned (refusal_of head n) e ((ps : List Placed) → Fits (header_of head) row_bytes rows n ps → ⊥)
 
+-- what opening answers where the header names that format, or none that is known
 abbrev pub OpenedAs : List ℕ → ℕ → Option FormatName → Result Layout Refusal → Type 0
 OpenedAs head n None r = r ≡ Err UnknownFormat
 OpenedAs head n (Some name) r = Opened head n (row_bytes_of name) (rows_of name) r
 
+-- what opening answers where the header was read so
 abbrev pub OpenedIn : List ℕ → ℕ → (ℕ → Option FormatName) → Result Header Refusal → Result Layout Refusal → Type 0
 OpenedIn head n names (Err e) r = r ≡ Err e
 OpenedIn head n names (Ok h) r = OpenedAs head n (header_name names h) r

@@ -1,4 +1,4 @@
--- The bytes and the slices of levels.
+-- The bytes of levels.
 use Rattle.std.specs.Prelude.{ℕ, ◌+◌, ◌*◌, ◌≤◌, List, [], ◌∷◌}
 use Rattle.dds.specs.declared.level.Level.{Level}
 
@@ -14,11 +14,6 @@ level_end l = l.begin + l.slices * piece_length l
 abbrev pub total_of : List Level → ℕ
 total_of [] = 0
 total_of (l ∷ ls) = l.slices * piece_length l + total_of ls
-
--- the slices of all levels of a list: the pieces of an element that has these levels
-abbrev pub slices_of : List Level → ℕ
-slices_of [] = 0
-slices_of (l ∷ ls) = l.slices + slices_of ls
 
 -- each level of a list has a slice
 abbrev pub Sliced : List Level → Type 0

@@ -46,6 +46,7 @@ pub record FitsPlan (plan : Plan) (n : ℕ) (ps : List Placed) : Type 0 where
   pub sized : Sized plan.size ps
   pub touching : Touching plan.begin ps n
 
+-- a piece, by its three numbers
 abbrev piece_of : ℕ → ℕ → ℕ → Piece
 piece_of e l s = record { element = e; level = l; slice = s }
 

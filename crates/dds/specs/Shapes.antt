@@ -1,17 +1,16 @@
 -- Which shape a header means, and which sizes are in range.
-use Rattle.std.specs.Prelude.{ℕ, ◌*◌, max, Bool, cond, not, ◌&&◌, Some, None, Ok, Err, Option, Result, ◌==◌, bit_and, nat_le, nat_lt}
+use Rattle.std.specs.Prelude.{ℕ, ◌*◌, max, Bool, cond, not, ◌&&◌, Some, None, Ok, Err, Option, Result, ◌==◌, bit_and, nat_lt}
 use Rattle.refusal.specs.declared.Refusal.{Refusal}
 use Rattle.refusal.specs.declared.Refusal.TheVariants.{NoShape, OutOfRange, TooManyLevels}
+use Rattle.formats.specs.BitCounts.{is_set}
+use Rattle.formats.specs.Extents.{within}
 use Rattle.dds.specs.declared.header.Header.{Header}
 use Rattle.dds.specs.declared.shape.Shape.{Shape}
 use Rattle.dds.specs.declared.shape.Shape.TheVariants.{Line, Flat, Cube, Volume}
 use Rattle.dds.specs.Headers.{is_extended}
 use Rattle.dds.specs.Levels.{levels_of, longest_chain}
 
--- some bit of the mask is set, and every bit of it is
-abbrev is_set : ℕ → ℕ → Bool
-is_set field bit = not (bit_and field bit == 0)
-
+-- every bit of the mask is set
 abbrev all_set : ℕ → ℕ → Bool
 all_set field bits = bit_and field bits == bits
 
@@ -34,6 +33,7 @@ extended_shape h =
     (cond (h.dimension == 3) (Some (Flat h.array_size))
     (cond (h.dimension == 4 && (h.array_size == 1 && is_set h.flags 0x800000)) (Some (Volume h.depth)) None)))
 
+-- the shape that a header means, if any
 abbrev pub shape_of : Header → Option Shape
 shape_of h = cond (is_extended h) (extended_shape h) (plain_shape h)
 
@@ -58,9 +58,6 @@ limit_of (Flat n) = 16384
 limit_of (Cube n) = 16384
 limit_of (Volume d) = 2048
 
-abbrev pub within : ℕ → ℕ → Bool
-within top n = nat_le 1 n && nat_le n top
-
 -- both sides, a volume's depth and the number of elements are in range
 abbrev pub is_in_range : Header → Shape → Bool
 is_in_range h shape =
@@ -71,6 +68,7 @@ is_in_range h shape =
 abbrev pub largest_side : Header → Shape → ℕ
 largest_side h shape = max (max h.width h.height) (depth_of shape)
 
+-- the shape, or the first refusal that applies: no shape, out of range, too many levels
 abbrev pub judged : Header → Option Shape → Result Shape Refusal
 judged h None = Err NoShape
 judged h (Some shape) =

@@ -5,10 +5,11 @@ use Rattle.dds.specs.LevelEnds.{piece_length}
 use Rattle.dds.specs.Plans.{Plan, begin_at, stride_of, end_of}
 use Rattle.dds.specs.Tables.{blank}
 
--- the slices of a level, and the bytes of one
+-- the slices of a level
 abbrev pub slices_in : Table → ℕ → ℕ
 slices_in t level = (get_or t.levels level blank).slices
 
+-- the bytes of a slice of a level
 abbrev pub size_in : Table → ℕ → ℕ
 size_in t level = piece_length (slice_index_or t.levels level blank)
 

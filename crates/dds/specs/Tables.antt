@@ -7,13 +7,11 @@ use Rattle.dds.specs.declared.table.Sides.{Sides}
 use Rattle.dds.specs.Levels.{side_at}
 use Rattle.dds.specs.Plans.{size_at, begin_at}
 
+-- an entry behind the last level
 abbrev pub blank : Level
 blank = record { width = 0; height = 0; slices = 0; row_bytes = 0; rows = 0; begin = 0 }
 
--- the sides of a level, from those of the first
-abbrev pub sides_at : Sides → ℕ → Sides
-sides_at s level = record { width = side_at s.width level; height = side_at s.height level; depth = side_at s.depth level }
-
+-- the sides that a format is asked about
 pub record InRange (s : Sides) : Type 0 where
   pub some_width : 1 ≤ s.width
   pub few_width : s.width ≤ 16384
@@ -40,6 +38,7 @@ pub record IsChain (row_bytes rows : ℕ → ℕ → ℕ) (s : Sides) (count : �
   pub long : length c.levels ≡ 15
   pub stride : c.stride ≡ begin_at (side_at s.depth) (size_at row_bytes rows s.width s.height) count
 
+-- a level with such an extent, such sides and such a begin
 abbrev pub level_with : Extent → Sides → ℕ → Level
 level_with extent s start =
     record { width = s.width; height = s.height; slices = s.depth; row_bytes = extent.row_bytes; rows = extent.rows; begin = start }

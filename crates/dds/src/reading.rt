@@ -2,7 +2,7 @@
 ghost use Rattle.std.specs.Prelude.{◌≡◌, ℕ, ◌≤◌, true, false, List, drop, MatchOption, slice_index};
 ghost use Rattle.std.specs.Option.{option_map};
 ghost use Rattle.formats.specs.Names.{name_of};
-ghost use Rattle.dds.specs.Headers.{word, has_magic, header_of, header_read, is_extended, code_decides, header_name};
+ghost use Rattle.dds.specs.Headers.{number_at, has_magic, header_of, header_read, is_extended, code_decides, header_name};
 
 use crate::head::FileHead;
 use crate::header::Header;
@@ -30,16 +30,20 @@ fn byte_at(bytes: &[u8], place: usize) -> u8
 }
 
 // The number whose lowest byte stands at a place.
-fn word_at(bytes: &[u8], place: usize) -> u32
+fn number_at(bytes: &[u8], place: usize) -> u32
     requires { place ≤ 148 }
-    ensures { result ≡ word bytes.now place }
+    ensures { result ≡ number_at bytes.now place }
 {
-    u32::from_le_bytes([
-        byte_at(bytes, place),
-        byte_at(bytes, place + 1),
-        byte_at(bytes, place + 2),
-        byte_at(bytes, place + 3),
-    ])
+    match bytes.get(place..place + 4) {
+        // most often all four are there, and one look at the length is enough
+        Some([lowest, low, high, highest]) => u32::from_le_bytes([*lowest, *low, *high, *highest]),
+        _ => u32::from_le_bytes([
+            byte_at(bytes, place),
+            byte_at(bytes, place + 1),
+            byte_at(bytes, place + 2),
+            byte_at(bytes, place + 3),
+        ]),
+    }
 }
 
 // What follows the four bytes that every DDS file begins with; none where others stand there.
@@ -58,21 +62,21 @@ impl Header {
         ensures { (head : List ℕ) → rest.now ≡ drop 4 head → result ≡ header_of head }
     {
         Header {
-            header_size: word_at(rest, 0),
-            flags: word_at(rest, 4),
-            height: word_at(rest, 8),
-            width: word_at(rest, 12),
-            depth: word_at(rest, 20),
-            level_count: word_at(rest, 24),
-            pixel_format_size: word_at(rest, 72),
-            pixel_flags: word_at(rest, 76),
-            code: word_at(rest, 80),
-            bit_count: word_at(rest, 84),
-            caps2: word_at(rest, 108),
-            dxgi_code: word_at(rest, 124),
-            dimension: word_at(rest, 128),
-            misc: word_at(rest, 132),
-            array_size: word_at(rest, 136),
+            header_size: number_at(rest, 0),
+            flags: number_at(rest, 4),
+            height: number_at(rest, 8),
+            width: number_at(rest, 12),
+            depth: number_at(rest, 20),
+            level_count: number_at(rest, 24),
+            pixel_format_size: number_at(rest, 72),
+            pixel_flags: number_at(rest, 76),
+            code: number_at(rest, 80),
+            bit_count: number_at(rest, 84),
+            caps2: number_at(rest, 108),
+            dxgi_code: number_at(rest, 124),
+            dimension: number_at(rest, 128),
+            misc: number_at(rest, 132),
+            array_size: number_at(rest, 136),
         }
     }
 

@@ -10,6 +10,7 @@ pub record Row : Type 0 where
   pub name : FormatName
   pub codes : List (ℕ × ℕ)
 
+-- a row of a table
 abbrev row : FormatName → List (ℕ × ℕ) → Row
 row n cs = record { name = n; codes = cs }
 
@@ -18,9 +19,11 @@ infix 70 ◌to◌
 abbrev ◌to◌ : ℕ → ℕ → ℕ × ℕ
 ◌to◌ first last = (first, last)
 
+-- one code alone
 abbrev only : ℕ → ℕ × ℕ
 only code = (code, code)
 
+-- the number whose bytes these are, the lowest first
 abbrev from_bytes : List ℕ → ℕ
 from_bytes [] = 0
 from_bytes (lowest ∷ rest) = lowest + 256 * from_bytes rest
@@ -29,6 +32,7 @@ from_bytes (lowest ∷ rest) = lowest + 256 * from_bytes rest
 abbrev letters : String → ℕ × ℕ
 letters text = only (from_bytes (codes text))
 
+-- the codes of an extended header
 unfoldable pub dxgi_rows : List Row
 dxgi_rows =
     row (Linear 128) (1 to 4 ∷ [])
@@ -43,6 +47,7 @@ dxgi_rows =
     ∷ row (Block 16) (73 to 78 ∷ 82 to 84 ∷ 94 to 99 ∷ [])
     ∷ []
 
+-- the codes of the pixel format's code field: letters, and a few numbers
 unfoldable pub plain_rows : List Row
 plain_rows =
     row (Block 8) (map letters ("DXT1" ∷ "BC4U" ∷ "BC4S" ∷ []))
@@ -66,7 +71,7 @@ has_code code r = nat_le r.first code && nat_le code r.last
 -- the name that the first range with the code gives it
 unfoldable pub name_in : List CodeRange → ℕ → Option FormatName
 name_in [] code = None
-name_in (r ∷ rs) code = cond (nat_le r.first code && nat_le code r.last) (Some r.name) (name_in rs code)
+name_in (r ∷ rs) code = cond (has_code code r) (Some r.name) (name_in rs code)
 
 -- the name that a table gives a code, if any
 abbrev pub name_for : List Row → ℕ → Option FormatName

@@ -4,9 +4,13 @@ use Rattle.formats.specs.declared.family.Extent.{Extent}
 use Rattle.formats.specs.declared.kinds.FormatName.{FormatName}
 use Rattle.formats.specs.declared.kinds.FormatName.TheVariants.{Linear, Paired, Block}
 
+-- a number is at least 1 and at most so large
+abbrev pub within : ℕ → ℕ → Bool
+within top n = nat_le 1 n && nat_le n top
+
 -- a side that an image may have
 abbrev pub is_side : ℕ → Bool
-is_side side = nat_le 1 side && nat_le side 16384
+is_side side = within 16384 side
 
 -- a family's two functions at an image's sides, and nothing where a side is out of range
 abbrev pub extent_of : (ℕ → ℕ → ℕ) → (ℕ → ℕ → ℕ) → ℕ → ℕ → Extent

@@ -19,6 +19,7 @@ admitted (Linear bits) = cond (is_pixel_size bits) (Some (Linear bits)) None
 admitted Paired = Some Paired
 admitted (Block bytes) = cond (is_block_size bytes) (Some (Block bytes)) None
 
+-- the same of a name that may be missing
 abbrev pub admitted_of : Option FormatName → Option FormatName
 admitted_of None = None
 admitted_of (Some name) = admitted name

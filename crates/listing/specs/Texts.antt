@@ -6,6 +6,7 @@ use Rattle.listing.specs.declared.facts.Facts.{Facts}
 use Rattle.listing.specs.declared.row.Owner.{Owner}
 use Rattle.listing.specs.declared.row.Row.{Row}
 
+-- format, shape, sides of the first level, levels
 abbrev pub facts_text : Facts → List ℕ
 facts_text facts =
     name_text facts.format ++ (codes ", " ++ (shape_text facts.shape ++ (codes ", " ++ (decimal facts.width ++ (codes " x "

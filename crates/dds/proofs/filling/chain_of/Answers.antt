@@ -5,8 +5,8 @@ use Rattle.dds.specs.declared.table.Sides.{Sides}
 use Rattle.dds.specs.Levels.{side_at}
 use Rattle.dds.specs.Plans.{size_at, begin_at}
 use Rattle.dds.specs.LevelEnds.{level_end}
-use Rattle.dds.specs.Tables.{InRange, sides_at, level_at, level_with, blank}
-use Rattle.dds.proofs.Begins.{level_is, begin_few, sides_step}
+use Rattle.dds.specs.Tables.{InRange, level_at, level_with, blank}
+use Rattle.dds.proofs.Begins.{sides_at, level_is, begin_few, sides_step}
 use Rattle.dds.proofs.Written.{one_more, written}
 use Rattle.dds.proofs.filling.chain_of.Goals as goal
 

@@ -1,7 +1,8 @@
 use Rattle.std.proofs.Common.{◌≡◌, ℕ, ◌<◌, get_or}
 use Rattle.dds.specs.Levels.{side_at}
 use Rattle.dds.specs.Plans.{size_at, begin_at}
-use Rattle.dds.specs.Tables.{sides_at, level_at, blank}
+use Rattle.dds.specs.Tables.{level_at, blank}
+use Rattle.dds.proofs.Begins.{sides_at}
 use Rattle.dds.proofs.filling.chain_of.Given as goal
 
 -- the first levels stand in the table, and the next begins behind them

@@ -1,6 +1,10 @@
-use Rattle.std.proofs.Common.{◌+◌, ◌*◌}
-use Rattle.dds.specs.LevelEnds.{slices_of}
+use Rattle.std.proofs.Common.{ℕ, ◌+◌, ◌*◌, List, sum_by}
+use Rattle.dds.specs.declared.level.Level.{Level}
 use Rattle.dds.proofs.walk.+element_step_level_step.Given as goal
+
+-- the pieces of an element that has these levels
+abbrev pub slices_of : List Level → ℕ
+slices_of = sum_by (λ (l : Level). l.slices)
 
 -- the pieces left to walk over, and a step more for each hand-over
 abbrev pub decreases-element_step : goal.decreases-element_step
