@@ -1,5 +1,5 @@
 -- Finding the newest mark of a loan from the end, and what is left without it.
-use Rattle.std.proofs.Common.{◌≡◌, ℕ, suc, ◌+◌, ◌-◌, ◌<◌, ◌≤◌, Bool, true, false, cond, not, ◌&&◌, ◌≢◌, List, [], ◌∷◌, ◌++◌, length, get_or, take, drop, sym, refl, ap, ◌∙◌, ap₂, append_assoc, arith, drop-drop, take-add, length-append}
+use Rattle.std.proofs.Common.{◌≡◌, ℕ, suc, ◌+◌, ◌-◌, ◌<◌, ◌≤◌, Bool, true, false, cond, not, ◌&&◌, ◌≢◌, List, [], ◌∷◌, ◌++◌, length, get_or, take, drop, take_all, sym, refl, ap, ◌∙◌, ap₂, append_assoc, arith, drop-drop, take-add, length-append}
 use lib.Seq.{paste, split_at}
 use Rattle.std.proofs.Math.Seq.{take-append_seam, get_or-append_seam}
 use Rattle.std.proofs.lemmas.List.{take_more, at_drop_more, take-take, get_or-take}
@@ -36,6 +36,12 @@ stepped ms xs ys m front is =
           ap (λ i. get_or ms i no_mark) less ∙ sym (get_or-take (length xs) ms (length ys) no_mark (omega arith))
           ∙ ap (λ zs. get_or zs (length ys) no_mark) (sym front ∙ is) ∙ get_or-append_seam ys m [] no_mark;
     }
+
+-- a list parts into its last and those before it
+pub last_apart : (xs : List Mark) → 0 < length xs → xs ≡ take (length xs - 1) xs ++ get_or xs (length xs - 1) no_mark ∷ []
+last_apart xs some =
+    let back : length xs - 1 + 1 ≡ length xs = omega arith in
+    sym (take_all (length xs) xs (omega arith)) ∙ ap (λ k. take k xs) (sym back) ∙ take_more xs (length xs - 1) no_mark (omega arith)
 
 pub marks_none : (n : ℕ) (ms : List Mark) → some_of (of_loan n) ms ≡ false → marks_of n ms ≡ 0
 marks_none n [] h = refl

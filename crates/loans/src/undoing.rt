@@ -1,5 +1,5 @@
 // Taking a stroke back.
-ghost use Rattle.std.specs.Prelude.{◌≡◌};
+ghost use Rattle.std.specs.Prelude.{◌≡◌, ◌≤◌, length};
 ghost use Rattle.loans.specs.Jobs.{book_of};
 ghost use Rattle.loans.specs.Stocks.{stock_of, lengths, OursWhere};
 ghost use Rattle.loans.specs.Strokes.{state_of};
@@ -28,15 +28,21 @@ pub(crate) struct Last {
 
 // The newest mark of a loan, looked for from the end.
 fn newest_of(marks: &[Mark], covered: usize, loan: u32) -> Option<Newest>
-    requires { lengths marks.now ≡ covered }
+    requires covered { lengths marks.now ≡ covered }
+    requires short { length marks.now ≤ 1073741824 }
     ensures { FoundNewest marks.now loan result }
 {
     let mut begin = covered;
-    for (position, mark) in marks.iter().enumerate().rev() {
+    let mut left = marks;
+    while let [before @ .., mark] = left {
         begin -= mark.length;
         if mark.loan == loan {
-            return Some(Newest { position, begin });
+            return Some(Newest {
+                position: before.len(),
+                begin,
+            });
         }
+        left = before;
     }
     None
 }

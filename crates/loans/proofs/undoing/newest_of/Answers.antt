@@ -1,32 +1,35 @@
-use Rattle.std.proofs.Common.{◌≡◌, ℕ, ◌-◌, ◌≢◌, ◌∙◌, length, ap, subst₂, arith}
+use Rattle.std.proofs.Common.{ℕ, ◌-◌, ◌≡◌, ◌≢◌, subst₂, ap, arith}
 use Rattle.loans.specs.declared.mark.Mark.{Mark}
 use Rattle.loans.specs.Taking.{NewestAt}
-use Rattle.loans.proofs.Newest.{Unfound, stepped, long_enough, newest_here, unfound_before, unfound_none}
+use Rattle.loans.proofs.Newest.{Unfound, stepped, last_apart, long_enough, newest_here, unfound_before, unfound_none}
 use Rattle.loans.proofs.undoing.newest_of.Goals as goal
+
+pub offset_bounds-left-left : goal.offset_bounds-left-left
+offset_bounds-left-left c = omega (arith, c.loop-left.invariant.1.within, c.requires.short)
 
 pub overflow_sub-begin : goal.overflow_sub-begin
 overflow_sub-begin c =
-    let s = stepped c.args.marks.now _ _ _ c.loop-position.invariant.1 c.in-Some.ensures.steps.1.0 in
-    let long = long_enough c.loop-position.invariant.2 s.some in
-    let m = ap (λ (x : Mark). x.length) s.last in
-    omega arith
+    let s = stepped c.args.marks.now _ _ _ c.loop-left.invariant.0 (last_apart _ c.in-len1-up.len_at_least) in
+    omega (arith, long_enough c.loop-left.invariant.1 c.in-len1-up.len_at_least, ap (λ (m : Mark). m.length) s.last)
 
 pub returns-then-mark-loan : goal.returns-then-mark-loan
 returns-then-mark-loan c =
-    let s = stepped c.args.marks.now _ _ _ c.loop-position.invariant.1 c.in-Some.ensures.steps.1.0 in
-    let at : length c.loop-position.position-iterator.iter.iter.rest.now - 1 ≡ c.in-Some.position =
-    omega (arith, s.less, c.in-Some.ensures.steps.1.1, c.loop-position.invariant.0) in
-    subst₂ (λ (x : Mark) (k : ℕ). x.loan ≡ c.args.loan → NewestAt c.args.marks.now c.args.loan k (c.loop-position.begin - x.length)) s.last at
-    (newest_here c.loop-position.invariant.2 s.some) c.if-mark-loan.true
+    let s = stepped c.args.marks.now _ _ _ c.loop-left.invariant.0 (last_apart _ c.in-len1-up.len_at_least) in
+    subst₂ (λ (m : Mark) (k : ℕ). m.loan ≡ c.args.loan → NewestAt c.args.marks.now c.args.loan k (c.loop-left.begin - m.length)) s.last s.less
+    (newest_here c.loop-left.invariant.1 c.in-len1-up.len_at_least) c.if-mark-loan.true
 
-pub loop-position-preserved : goal.loop-position-preserved
-loop-position-preserved c =
-    let s = stepped c.args.marks.now _ _ _ c.loop-position.invariant.1 c.in-Some.ensures.steps.1.0 in (
-      c.in-Some.ensures.steps.0 ∙ c.loop-position.invariant.0,
+pub loop-left-smaller : goal.loop-left-smaller
+loop-left-smaller c =
+    let s = stepped c.args.marks.now _ _ _ c.loop-left.invariant.0 (last_apart _ c.in-len1-up.len_at_least) in
+    omega (arith, s.less, c.in-len1-up.len_at_least)
+
+pub loop-left-preserved : goal.loop-left-preserved
+loop-left-preserved c =
+    let s = stepped c.args.marks.now _ _ _ c.loop-left.invariant.0 (last_apart _ c.in-len1-up.len_at_least) in (
       s.front,
-      subst₂ (λ (x : Mark) (k : ℕ). x.loan ≢ c.args.loan → Unfound c.args.marks.now c.args.loan k (c.loop-position.begin - x.length)) s.last s.less
-          (unfound_before c.loop-position.invariant.2 s.some) c.if-mark-loan.false,
+      subst₂ (λ (m : Mark) (k : ℕ). m.loan ≢ c.args.loan → Unfound c.args.marks.now c.args.loan k (c.loop-left.begin - m.length)) s.last s.less
+          (unfound_before c.loop-left.invariant.1 c.in-len1-up.len_at_least) c.if-mark-loan.false,
     )
 
 pub returns : goal.returns
-returns c = unfound_none c.loop-position.invariant.2 c.in-None.ensures.steps.1.0
+returns c = unfound_none c.loop-left.invariant.1 (omega (arith, c.in_default.len_below))
