@@ -11,9 +11,9 @@ use Rattle.loans.specs.Stocks.{Stock, are_ours}
 use Rattle.loans.specs.Strokes.{State}
 use Rattle.loans.specs.Rules.{Deed, refusal_of, carried_out, number_for, reply, left, answer_to, after, answers_to, after_all}
 use Rattle.loans.specs.Rules.Deed.{lend, paint, undo, keep, cancel}
-use Rattle.loans.specs.History.{Event, written_down, lent, out_in, keeps_in, cancels_in, standing, ever_laid, byte_under, undoable, mark_of, told}
+use Rattle.loans.specs.History.{Event, written_down, history_of, lent, out_in, keeps_in, cancels_in, standing, ever_laid, byte_under, undoable, mark_of, told}
 use Rattle.loans.specs.Law.{Answered, AtHome, Law}
-use Rattle.loans.specs.Runs.{opened_state, LawfulRun}
+use Rattle.loans.specs.Runs.{opened_state}
 use Rattle.loans.proofs.Lawful.{Lawful, lawful}
 use Rattle.loans.proofs.Good.{good_none, outs_apart}
 use Rattle.loans.proofs.Ours.{told_ours, told_same, told_length}
@@ -113,7 +113,9 @@ module _ (t : Table) (number mm mb : ℕ) (opening : List ℕ) (lawful : Lawful 
       }
 
 -- the law over every list of calls on a job just opened
-pub law_run : (y : Layout) (number : ℕ) (file : List ℕ) (k : Stock) (ds : List Deed) → length file ≡ y.table.length → LawfulRun y.table number file k ds
+pub law_run : (y : Layout) (number : ℕ) (file : List ℕ) (k : Stock) (ds : List Deed) → length file ≡ y.table.length → k.marks ≡ [] → k.bytes ≡ []
+    → Law y.table number k.most_marks k.most_bytes file (history_of ds (answers_to (opened_state y.table number file k) ds))
+    (after_all (opened_state y.table number file k) ds)
 law_run y number file k ds e a b =
     let l : Lawful y.table (length file) = subst (Lawful y.table) (sym e) (lawful y) in
     stands_law y.table number k.most_marks k.most_bytes file l e _ _

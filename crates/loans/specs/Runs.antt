@@ -21,13 +21,6 @@ use Rattle.loans.specs.Law.{Law}
 abbrev pub opened_state : Table → ℕ → List ℕ → Stock → State
 opened_state t number file k = record { book = fresh_book t (Some number); file = file; stock = k }
 
--- the law over a list of calls from the opening on
-abbrev pub LawfulRun : Table → ℕ → List ℕ → Stock → List Deed → Type 0
-LawfulRun t number file k ds =
-    k.marks ≡ [] → k.bytes ≡ []
-    → Law t number k.most_marks k.most_bytes file (history_of ds (answers_to (opened_state t number file k) ds))
-    (after_all (opened_state t number file k) ds)
-
 -- neither shelf holds anything
 abbrev pub is_empty : Stock → Bool
 is_empty k = length k.marks == 0 && length k.bytes == 0
