@@ -14,6 +14,7 @@ pub record Step : Type 0 where
   pub stock : Stock
   pub deed : Deed
 
+-- a job with the file and the shelves that a call on it is given
 abbrev pub state_with : Book → List ℕ → Stock → State
 state_with b f k = record { book = b; file = f; stock = k }
 

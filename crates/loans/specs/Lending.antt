@@ -10,6 +10,7 @@ use Rattle.loans.specs.declared.ledger.Ledger.{Ledger}
 use Rattle.loans.specs.declared.ledger.Loan.{Loan}
 use Rattle.loans.specs.Jobs.{Book, book_of}
 
+-- two pieces are the same where element, level and slice are
 abbrev pub same_piece : Piece → Piece → Bool
 same_piece p q = p.element == q.element && (p.level == q.level && p.slice == q.slice)
 
@@ -54,6 +55,7 @@ ledger_with l p borrower' a =
       bytes = l.bytes;
     }
 
+-- the piece is lent under the next number; a refusal changes nothing
 abbrev pub Lent : Piece → ℕ → Job → Result ℕ Refusal → Job → Type 0
 Lent p borrower s (Ok n) t =
     (loan_refusal (book_of s) p ≡ None) × (n ≡ (book_of s).granted + 1) × (book_of t ≡ with_loan (book_of s) p borrower)

@@ -11,6 +11,7 @@ pub record Fits (k : Stock) (position begin n : ℕ) (to : Ends) : Type 0 where
   pub marks_down : to.marks ≤ position
   pub bytes_down : to.bytes ≤ begin
 
+-- the mark and its bytes stand at the ends of what stays
 abbrev pub stock_slid : Stock → ℕ → ℕ → ℕ → Ends → Stock
 stock_slid k position begin n to =
     record {

@@ -16,6 +16,7 @@ pub record Stock : Type 0 where
   pub most_marks : ℕ
   pub most_bytes : ℕ
 
+-- what two shelves hold, and how much they can hold
 abbrev pub stock_of : Shelves → Stock
 stock_of s =
     record {
@@ -33,6 +34,7 @@ is_number n l = n == l.number
 abbrev pub is_out : List Loan → ℕ → Bool
 is_out ls n = some_of (is_number n) ls
 
+-- the first of the loans that has the number
 abbrev pub the_loan : List Loan → ℕ → Loan
 the_loan ls n = first_or no_loan (is_number n) ls
 
@@ -58,6 +60,7 @@ lies_in a m = nat_le a.place m.place && nat_le (m.place + m.length) (a.place + a
 abbrev pub is_sound : List Loan → Mark → Bool
 is_sound ls m = nat_le 1 m.length && (is_out ls m.loan && lies_in (the_loan ls m.loan).area m)
 
+-- every mark is sound
 abbrev pub all_sound : List Loan → List Mark → Bool
 all_sound ls [] = true
 all_sound ls (m ∷ ms) = is_sound ls m && all_sound ls ms

@@ -7,6 +7,7 @@ use Rattle.loans.specs.declared.ledger.Ledger.{Ledger}
 use Rattle.loans.specs.declared.ledger.Loan.{Loan}
 use Rattle.loans.specs.Books.{no_loan}
 
+-- the loan with so many strokes that it can undo
 abbrev pub loan_with : Loan → ℕ → Loan
 loan_with l n = record { number = l.number; borrower = l.borrower; piece = l.piece; area = l.area; strokes = n }
 
@@ -24,11 +25,12 @@ ledger_counted l k n marks' bytes' =
       bytes = bytes';
     }
 
--- how many loans more were kept, and how many more cancelled, where one ends
+-- how many loans more were kept, where one ends so
 abbrev pub kept_by : Ending → ℕ
 kept_by Kept = 1
 kept_by Cancelled = 0
 
+-- how many more were cancelled
 abbrev pub cancelled_by : Ending → ℕ
 cancelled_by Kept = 0
 cancelled_by Cancelled = 1

@@ -27,6 +27,7 @@ newest_over (s ∷ ss) i =
 abbrev pub Newest : Table → List Deed → List (Result ℕ Refusal) → ℕ → Option Painter → Type 0
 Newest t ds rs place r = (opening : List ℕ) → r ≡ newest_over (standing t opening (history_of ds rs)) place
 
+-- the painter that is told is that of the newest stroke standing over the byte
 pub record Traced (t : Table) (ds : List Deed) (rs : List (Result ℕ Refusal)) (place : ℕ) (r : Option Painter) : Type 0 where
   -- after every run of calls on a job just opened, with two empty shelves
   pub run : (number : ℕ) (file : List ℕ) (k : Stock) → length file ≡ t.length → k.marks ≡ [] → k.bytes ≡ []
@@ -36,14 +37,18 @@ pub record Traced (t : Table) (ds : List Deed) (rs : List (Result ℕ Refusal)) 
 
 -- Read from the newest call to the oldest, an undo owes one stroke of its loan, which the next stroke of the loan pays; a cancel
 -- takes back all of its loan's strokes before it. A stroke stands where nothing is owed.
+
+-- a stroke of the loan pays one that is owed, if any
 abbrev pub paid_off : Bool → Option ℕ → Option ℕ
 paid_off b None = None
 paid_off b (Some k) = Some (cond b (k - 1) k)
 
+-- an undo of the loan owes one more
 abbrev pub owing_more : Bool → Option ℕ → Option ℕ
 owing_more b None = None
 owing_more b (Some k) = Some (cond b (k + 1) k)
 
+-- a stroke of the loan stands here: nothing is owed, and not all are taken back
 abbrev pub owes_nothing : Option ℕ → Bool
 owes_nothing None = false
 owes_nothing (Some k) = k == 0
@@ -63,11 +68,12 @@ owed n [] rs = Some 0
 owed n (c ∷ cs) [] = Some 0
 owed n (c ∷ cs) (r ∷ rs) = owed_before n (owed n cs rs) (deed_of c) r
 
--- the piece of the loan of a number that is out after a call; the first that was lent where a made-up history has two
+-- the piece that is out already, or else the one that is lent under the number; so of two in a made-up history the first
 abbrev pub unless_out : Option Piece → Bool → Piece → Option Piece
 unless_out (Some q) b p = Some q
 unless_out None b p = cond b (Some p) None
 
+-- the piece of a loan that is out after a call, by that before it: it comes by its loan call, and goes by keep or cancel
 abbrev pub piece_after : ℕ → Option Piece → Deed → Result ℕ Refusal → Option Piece
 piece_after n o d (Err e) = o
 piece_after n o (lend p who) (Ok x) = unless_out o (n == x) p
@@ -76,10 +82,12 @@ piece_after n o (undo m who) (Ok x) = o
 piece_after n o (keep m) (Ok x) = cond (m == n) None o
 piece_after n o (cancel m) (Ok x) = cond (m == n) None o
 
+-- the piece of the loan of a number that is out after a history
 abbrev pub piece_out : ℕ → List Event → Option Piece
 piece_out n [] = None
 piece_out n (e ∷ h) = piece_after n (piece_out n h) e.call e.answer
 
+-- the area of a piece; no bytes where none is named or none such exists
 abbrev pub area_for : Table → Option Piece → Area
 area_for t None = no_loan.area
 area_for t (Some p) = cond (exists_in t p) (area_in t p) no_loan.area
@@ -99,10 +107,11 @@ painter_by t pieces owes place (undo m who) (Ok x) = None
 painter_by t pieces owes place (keep m) (Ok x) = None
 painter_by t pieces owes place (cancel m) (Ok x) = None
 
--- what is read where no call and no answer stands
+-- what is read where no call stands
 abbrev pub no_call : Call
 no_call = Call.Loan (record { element = 0; level = 0; slice = 0 }) 0
 
+-- what is read where no answer stands
 abbrev pub no_answer : Result ℕ Refusal
 no_answer = Ok 0
 
