@@ -31,9 +31,9 @@ Inside n l =
     × ((slice_index_or l.loans k no_loan).area.length ≡ (slice_index_or l.loans k no_loan).area.row_bytes * (slice_index_or l.loans k no_loan).area.rows)
 
 -- no loan out has a number above the last that was given
-abbrev pub Given : Ledger → Type 0
-Given l = (k : ℕ) → k < l.out → (slice_index_or l.loans k no_loan).number ≤ l.granted
+abbrev pub NumbersGiven : Ledger → Type 0
+NumbersGiven l = (k : ℕ) → k < l.out → (slice_index_or l.loans k no_loan).number ≤ l.granted
 
--- the numbers of the loans out rise
-abbrev pub Rising : Ledger → Type 0
-Rising l = (j k : ℕ) → j < k → k < l.out → (slice_index_or l.loans j no_loan).number < (slice_index_or l.loans k no_loan).number
+-- the numbers of the loans rise, so no two of them have one number
+abbrev pub NumbersRise : List Loan → Type 0
+NumbersRise ls = (j k : ℕ) → j < k → k < length ls → (slice_index_or ls j no_loan).number < (slice_index_or ls k no_loan).number

@@ -18,13 +18,13 @@ Answered t number most_marks most_bytes opening (e ∷ h) =
     (e.answer ≡ answer_to (told t number most_marks most_bytes opening h) e.call) × Answered t number most_marks most_bytes opening h
 
 -- the job's own file and shelves are never taken for others
-abbrev pub AtHome : Event → Type 0
-AtHome e = (e.answer ≢ Err OtherLength) × (e.answer ≢ Err ForeignShelves)
+abbrev pub TakenAsOwn : Event → Type 0
+TakenAsOwn e = (e.answer ≢ Err OtherLength) × (e.answer ≢ Err ForeignShelves)
 
 -- the numbers given are 1, 2, 3 and so on; the list has the newest first
-abbrev pub Numbered : List Loan → Type 0
-Numbered [] = Unit {0}
-Numbered (l ∷ ls) = (l.number ≡ length ls + 1) × Numbered ls
+abbrev pub NumberedFromOne : List Loan → Type 0
+NumberedFromOne [] = Unit {0}
+NumberedFromOne (l ∷ ls) = (l.number ≡ length ls + 1) × NumberedFromOne ls
 
 -- a loan's piece exists, and the loan spans it
 abbrev pub OfPiece : Table → Loan → Type 0
@@ -55,8 +55,8 @@ pub record Law (t : Table) (number most_marks most_bytes : ℕ) (opening : List 
   pub state : s ≡ told t number most_marks most_bytes opening h
   pub same_length : length s.file ≡ length opening
   pub answers : Answered t number most_marks most_bytes opening h
-  pub home : AllByRecursion AtHome h
-  pub numbers : Numbered (lent t h)
+  pub own : AllByRecursion TakenAsOwn h
+  pub numbers : NumberedFromOne (lent t h)
   pub pieces : AllByRecursion (OfPiece t) (lent t h)
   pub apart : Apart (out_in t h)
   pub rows : AllByRecursion (InRow (lent t h)) (ever_laid t opening h)

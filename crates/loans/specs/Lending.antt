@@ -56,7 +56,7 @@ ledger_with l p borrower' a =
     }
 
 -- the piece is lent under the next number; a refusal changes nothing
-abbrev pub Lent : Piece → ℕ → Job → Result ℕ Refusal → Job → Type 0
-Lent p borrower s (Ok n) t =
+abbrev pub Lends : Piece → ℕ → Job → Result ℕ Refusal → Job → Type 0
+Lends p borrower s (Ok n) t =
     (loan_refusal (book_of s) p ≡ None) × (n ≡ (book_of s).granted + 1) × (book_of t ≡ with_loan (book_of s) p borrower)
-Lent p borrower s (Err e) t = (loan_refusal (book_of s) p ≡ Some e) × (t ≡ s)
+Lends p borrower s (Err e) t = (loan_refusal (book_of s) p ≡ Some e) × (t ≡ s)

@@ -21,7 +21,7 @@ use Rattle.loans.specs.Rules.{Deed, deed_of}
 use Rattle.loans.specs.Rules.Deed.{lend, paint, undo, keep, cancel}
 use Rattle.loans.specs.History.{Event, Stroke, written_down, history_of, granting, lent, out_in, stroke_of, covers, laying, standing}
 use Rattle.loans.specs.Law.{OfPiece}
-use Rattle.painters.specs.Tracing.{newest_over, paid_off, owing_more, owes_nothing, owed_before, owed, unless_out, piece_after, piece_out, area_for, reach_over, painter_by, no_call, no_answer, past_of, painter_at, IsNewest, Newest, Traced}
+use Rattle.painters.specs.Tracing.{newest_over, paid_off, owing_more, owes_nothing, owed_before, owed, unless_out, piece_after, piece_out, area_for, reach_over, painter_by, no_call, no_answer, past_of, painter_at, IsNewest, NewestPainter, Traced}
 use Rattle.loans.proofs.Outs.{out_less}
 use Rattle.loans.proofs.Searches.{some_append, first_none}
 use Rattle.loans.proofs.Runs.{law_run}
@@ -396,7 +396,7 @@ owed_last cs rs n from k b few inside =
 
 -- the law has it that the loans of a run are of pieces that exist
 traced : (y : Layout) (ds : List Deed) (rs : List (Result ℕ Refusal)) (place : ℕ) (r : Option Painter)
-    → (AllByRecursion (OfPiece y.table) (lent y.table (history_of ds rs)) → Newest y.table ds rs place r) → Traced y.table ds rs place r
+    → (AllByRecursion (OfPiece y.table) (lent y.table (history_of ds rs)) → NewestPainter y.table ds rs place r) → Traced y.table ds rs place r
 traced y ds rs place r newest =
     record {
       run = λ number file k same marks bytes answers.
@@ -460,7 +460,7 @@ module _ (t : Table) (cs : List Call) (rs : List (Result ℕ Refusal)) (place j 
       (λ m. sym (owed_more m cs rs j no_call no_answer in_calls in_answers)))
 
   found_here : (p : Painter) → Some p ≡ painter_at t cs rs j place → AllByRecursion (OfPiece t) (lent t (history_of (map deed_of cs) rs))
-      → Newest t (map deed_of cs) rs place (Some p)
+      → NewestPainter t (map deed_of cs) rs place (Some p)
   found_here p e a opening =
       sym (here_or_before a opening
       ∙ ap (λ x. or_else x (newest_over (survivors (λ n. owed n (drop j cs) (drop j rs)) (standing t opening (past_of cs rs j))) place)) (sym e))

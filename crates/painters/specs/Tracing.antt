@@ -24,16 +24,16 @@ newest_over (s ∷ ss) i =
     cond (covers s i) (Some (record { loan = s.painting.loan; borrower = s.painting.borrower })) (newest_over ss i)
 
 -- who laid the newest stroke standing over the byte; no stroke's reach depends on the opening's bytes
-abbrev pub Newest : Table → List Deed → List (Result ℕ Refusal) → ℕ → Option Painter → Type 0
-Newest t ds rs place r = (opening : List ℕ) → r ≡ newest_over (standing t opening (history_of ds rs)) place
+abbrev pub NewestPainter : Table → List Deed → List (Result ℕ Refusal) → ℕ → Option Painter → Type 0
+NewestPainter t ds rs place r = (opening : List ℕ) → r ≡ newest_over (standing t opening (history_of ds rs)) place
 
 -- the painter that is told is that of the newest stroke standing over the byte
 pub record Traced (t : Table) (ds : List Deed) (rs : List (Result ℕ Refusal)) (place : ℕ) (r : Option Painter) : Type 0 where
   -- after every run of calls on a job just opened, with two empty shelves
   pub run : (number : ℕ) (file : List ℕ) (k : Stock) → length file ≡ t.length → k.marks ≡ [] → k.bytes ≡ []
-      → rs ≡ answers_to (opened_state t number file k) ds → Newest t ds rs place r
+      → rs ≡ answers_to (opened_state t number file k) ds → NewestPainter t ds rs place r
   -- and by whatever calls and answers, as long as every loan granted is of a piece that exists
-  pub pieces : AllByRecursion (OfPiece t) (lent t (history_of ds rs)) → Newest t ds rs place r
+  pub pieces : AllByRecursion (OfPiece t) (lent t (history_of ds rs)) → NewestPainter t ds rs place r
 
 -- Read from the newest call to the oldest, an undo owes one stroke of its loan, which the next stroke of the loan pays; a cancel
 -- takes back all of its loan's strokes before it. A stroke stands where nothing is owed.
