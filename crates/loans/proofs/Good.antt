@@ -8,15 +8,15 @@ use Rattle.std.proofs.lemmas.Bool.{eq-eqb, ne_eqb, and_parts}
 use Rattle.dds.specs.declared.area.Area.{Area}
 use Rattle.dds.specs.declared.piece.Piece.{Piece}
 use Rattle.dds.specs.declared.table.Table.{Table}
-use Rattle.dds.specs.Places.{exists_in}
+use Rattle.dds.specs.Places.{area_in, exists_in}
 use Rattle.loans.specs.declared.ledger.Loan.{Loan}
-use Rattle.loans.specs.Lists.{Among, less_first, less_all}
-use Rattle.loans.specs.Lending.{piece_is_out}
+use Rattle.loans.specs.Lists.{less_first, less_all}
+use Rattle.loans.specs.Lending.{granting, piece_is_out}
 use Rattle.loans.specs.Stocks.{is_number, is_out, the_loan}
 use Rattle.loans.specs.Strokes.{Painting, stroke_place}
-use Rattle.loans.specs.History.{Stroke, granting, stroke_of, stroke_length, covers, laying, undoable}
+use Rattle.loans.specs.History.{Stroke, stroke_of, stroke_length, covers, laying, undoable}
 use Rattle.loans.specs.Law.{NumberedFromOne, OfPiece, Spans, Apart, InRow}
-use Rattle.loans.proofs.Listed.{all_of, all_among, Split, all_less_first, kept_by_same, among_kept_by, some_of_push}
+use Rattle.loans.proofs.Listed.{Among, among_from, all_of, all_among, Split, all_less_first, kept_by_same, among_kept_by, some_of_push}
 use Rattle.loans.proofs.Underneath.{covers_parts}
 use Rattle.loans.proofs.Lawful.{Lawful}
 use Rattle.loans.proofs.Soundness.{Spares, Sized, Sound, sound_fewer}
@@ -125,17 +125,20 @@ module _ (t : Table) (mm mb : ℕ) (opening : List ℕ) where
     all_even = undoable_all os Even ss (All-weaker (Laid opening ls) Even (λ s r. r.sized.0) ss good.laid)
 
     -- no byte lies in the spans of two loans out
-    pub outs_apart : Lawful t (length opening) → Apart os
-    outs_apart lawful place a b m m' v w =
+    one_spans : Lawful t (length opening) → (place : ℕ) (a b : Loan) → Among os a → Among os b → Spans a place → Spans b place → a ≡ b
+    one_spans lawful place a b m m' v w =
         let p = (all_among (Lent t ls) os a good.lent m).of_piece in
         let q = (all_among (Lent t ls) os b good.lent m').of_piece in
         let In : ℕ → Area → Type 0 = λ i r. (r.place ≤ i) × (i < r.place + r.length) in
         good.single a b m m' (lawful.apart a.piece b.piece place p.0 q.0 (subst (In place) p.1 v) (subst (In place) q.1 w))
 
+    pub outs_apart : Lawful t (length opening) → Apart os
+    outs_apart lawful place a b m m' = one_spans lawful place a b (among_from os a m) (among_from os b m')
+
     -- a loan granted
     module _ (p : Piece) (who : ℕ) (there : exists_in t p ≡ true) (free : piece_is_out os p ≡ false) where
       abbrev new : Loan
-      new = granting t (length ls + 1) p who
+      new = granting (length ls + 1) p who (area_in t p)
 
       out_same : (m : ℕ) → is_out ls m ≡ true → is_out (os ++ new ∷ []) m ≡ is_out os m
       out_same m h = some_of_push (is_number m) os new (other ls good.numbers new refl m h)
@@ -228,7 +231,7 @@ module _ (t : Table) (mm mb : ℕ) (opening : List ℕ) where
       spares : (j : Stroke) → Laid opening ls j → Spares os stroke j
       spares j r o ne i c d =
           ne (sym (the_out os j.painting.loan o).1
-          ∙ (ap (λ (l : Loan). l.number) (outs_apart lawful i (the_loan os j.painting.loan) (the_loan os p.loan) (the_out os _ o).0 (the_out os _ out).0 (within j r c o) (within stroke laying_laid d out))
+          ∙ (ap (λ (l : Loan). l.number) (one_spans lawful i (the_loan os j.painting.loan) (the_loan os p.loan) (the_out os _ o).0 (the_out os _ out).0 (within j r c o) (within stroke laying_laid d out))
           ∙ (the_out os p.loan out).1))
         where
           within : (k : Stroke) → Laid opening ls k → covers k i ≡ true → is_out os k.painting.loan ≡ true → Spans (the_loan os k.painting.loan) i

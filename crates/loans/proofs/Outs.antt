@@ -6,7 +6,7 @@ use Rattle.std.proofs.lemmas.Bool.{eqb-true, eqb-false, eq-eqb, ne_eqb, and_righ
 use Rattle.dds.specs.declared.piece.Piece.{Piece}
 use Rattle.loans.specs.declared.ledger.Loan.{Loan}
 use Rattle.loans.specs.declared.mark.Mark.{Mark}
-use Rattle.loans.specs.Lists.{Among, less_all}
+use Rattle.loans.specs.Lists.{less_all}
 use Rattle.loans.specs.Books.{no_loan}
 use Rattle.loans.specs.Jobs.{Book}
 use Rattle.loans.specs.Lending.{same_piece, piece_is_out}
@@ -15,7 +15,7 @@ use Rattle.loans.specs.Strokes.{counted_loan, recounted}
 use Rattle.loans.specs.Ending.{stock_without, book_without}
 use Rattle.loans.specs.History.{Stroke, stroke_of, undoable, mark_of, shelved}
 use Rattle.loans.specs.Law.{NumberedFromOne}
-use Rattle.loans.proofs.Listed.{all_of, less_all_none, kept_by_same, kept_by_twice, kept_by_reverse, kept_by_map, first_among, some_of_map}
+use Rattle.loans.proofs.Listed.{Among, all_of, less_all_none, kept_by_same, kept_by_twice, kept_by_reverse, kept_by_map, first_among, some_of_map}
 use Rattle.loans.proofs.Shelved.{live, Even, bytes_of_is}
 
 -- the loan of a number that is out

@@ -5,11 +5,11 @@ use Rattle.std.proofs.lemmas.Bool.{cases_order, eqb-true, and_parts}
 use Rattle.loans.specs.declared.ledger.Ledger.{Ledger}
 use Rattle.loans.specs.declared.ledger.Loan.{Loan}
 use Rattle.loans.specs.declared.mark.Mark.{Mark}
-use Rattle.loans.specs.Books.{Balanced, Inside, NumbersGiven, NumbersRise, outs, no_loan}
+use Rattle.loans.specs.Books.{Balanced, Inside, NumbersGiven, NumbersRise, outs, no_loan, loan_with}
 use Rattle.loans.specs.Stocks.{marks_of, all_counted}
 use Rattle.loans.specs.Strokes.{counted_loan}
 use Rattle.loans.specs.Finding.{StandsAt}
-use Rattle.loans.specs.Writing.{loan_with, ledger_counted}
+use Rattle.loans.specs.Writing.{ledger_counted}
 use Rattle.loans.proofs.Counting.{rise_in, rise_from}
 
 -- two positions are the same or not

@@ -14,6 +14,10 @@ no_loan =
       strokes = 0;
     }
 
+-- the loan with so many strokes that it can undo
+abbrev pub loan_with : Loan → ℕ → Loan
+loan_with l n = record { number = l.number; borrower = l.borrower; piece = l.piece; area = l.area; strokes = n }
+
 -- the loans out, in the order in which they were granted
 abbrev pub outs : Ledger → List Loan
 outs l = take l.out l.loans

@@ -9,6 +9,7 @@ use Rattle.loans.specs.declared.ledger.Loan.{Loan}
 use Rattle.loans.specs.declared.mark.Mark.{Mark}
 use Rattle.loans.specs.Lists.{less_first, less_all}
 use Rattle.loans.specs.Jobs.{Book}
+use Rattle.loans.specs.Lending.{granting}
 use Rattle.loans.specs.Stocks.{Stock, is_number, is_out, the_loan}
 use Rattle.loans.specs.Strokes.{State, Painting, stroke_place, recounted}
 use Rattle.loans.specs.Rules.{Deed}
@@ -29,14 +30,10 @@ written_down h (d ∷ ds) (r ∷ rs) = written_down (record { call = d; answer =
 abbrev pub history_of : List Deed → List (Result ℕ Refusal) → List Event
 history_of ds rs = written_down [] ds rs
 
--- a loan as it is granted
-abbrev pub granting : Table → ℕ → Piece → ℕ → Loan
-granting t n p who = record { number = n; borrower = who; piece = p; area = area_in t p; strokes = 0 }
-
 -- a loan that is granted comes first, and none ever leaves
 abbrev pub lent_after : Table → List Loan → Deed → Result ℕ Refusal → List Loan
 lent_after t ls d (Err e) = ls
-lent_after t ls (lend p who) (Ok n) = granting t n p who ∷ ls
+lent_after t ls (lend p who) (Ok n) = granting n p who (area_in t p) ∷ ls
 lent_after t ls (paint p) (Ok k) = ls
 lent_after t ls (undo n who) (Ok k) = ls
 lent_after t ls (keep n) (Ok k) = ls
@@ -50,7 +47,7 @@ lent t (e ∷ h) = lent_after t (lent t h) e.call e.answer
 -- a loan is out from the call that answered its number until a keep or a cancel of it is carried out
 abbrev pub out_after : Table → List Loan → Deed → Result ℕ Refusal → List Loan
 out_after t ls d (Err e) = ls
-out_after t ls (lend p who) (Ok n) = ls ++ granting t n p who ∷ []
+out_after t ls (lend p who) (Ok n) = ls ++ granting n p who (area_in t p) ∷ []
 out_after t ls (paint p) (Ok k) = ls
 out_after t ls (undo n who) (Ok k) = ls
 out_after t ls (keep n) (Ok k) = less_all (is_number n) ls
@@ -104,9 +101,13 @@ stroke_of n s = n == s.painting.loan
 abbrev pub stroke_length : Stroke → ℕ
 stroke_length s = length s.painting.laid
 
+-- so many bytes from a place on reach over the byte at another
+abbrev pub reach_over : ℕ → ℕ → ℕ → Bool
+reach_over at n i = nat_le at i && nat_lt i (at + n)
+
 -- the stroke lies over the byte at a place
 abbrev pub covers : Stroke → ℕ → Bool
-covers s i = nat_le s.place i && nat_lt i (s.place + stroke_length s)
+covers s i = reach_over s.place (stroke_length s) i
 
 -- the byte at a place under strokes, the newest first: that of the first that lies over it, else the opening's
 abbrev pub byte_under : List ℕ → List Stroke → ℕ → ℕ

@@ -1,11 +1,10 @@
 -- The law of loans and strokes: what holds after every list of calls on a newly opened job with two empty shelves.
 use Rattle.std.specs.Prelude.{◌≡◌, ℕ, ◌+◌, ◌<◌, ◌≤◌, true, List, [], ◌∷◌, length, Err, ◌≢◌}
-use Rattle.std.specs.List.{AllByRecursion}
+use Rattle.std.specs.List.{AllByRecursion, Contains}
 use Rattle.refusal.specs.declared.Refusal.TheVariants.{OtherLength, ForeignShelves}
 use Rattle.dds.specs.declared.table.Table.{Table}
 use Rattle.dds.specs.Places.{exists_in, area_in}
 use Rattle.loans.specs.declared.ledger.Loan.{Loan}
-use Rattle.loans.specs.Lists.{Among}
 use Rattle.loans.specs.Stocks.{is_out, the_loan}
 use Rattle.loans.specs.Strokes.{State, stroke_place}
 use Rattle.loans.specs.Rules.{answer_to}
@@ -36,7 +35,7 @@ Spans l place = (l.area.place ≤ place) × (place < l.area.place + l.area.lengt
 
 -- no byte lies in the spans of two of the loans
 abbrev pub Apart : List Loan → Type 0
-Apart ls = (place : ℕ) (a b : Loan) → Among ls a → Among ls b → Spans a place → Spans b place → a ≡ b
+Apart ls = (place : ℕ) (a b : Loan) → Contains ls a → Contains ls b → Spans a place → Spans b place → a ≡ b
 
 -- a stroke has its loan's piece and borrower, a row below the piece's rows, ends at the row's end at the latest, and lies at the piece's
 -- place, row × row bytes, and first together

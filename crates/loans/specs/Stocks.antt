@@ -1,5 +1,6 @@
 -- What stands on a job's shelves, and when the shelves are the job's.
 use Rattle.std.specs.Prelude.{◌≡◌, ℕ, suc, ◌+◌, Bool, true, cond, ◌&&◌, List, [], ◌∷◌, length, ◌==◌, nat_le}
+use Rattle.std.specs.List.{list_all}
 use Rattle.shelf.specs.Model.{contents, capacity_of}
 use Rattle.dds.specs.declared.area.Area.{Area}
 use Rattle.loans.specs.declared.ledger.Loan.{Loan}
@@ -62,13 +63,11 @@ is_sound ls m = nat_le 1 m.length && (is_out ls m.loan && lies_in (the_loan ls m
 
 -- every mark is sound
 abbrev pub all_sound : List Loan → List Mark → Bool
-all_sound ls [] = true
-all_sound ls (m ∷ ms) = is_sound ls m && all_sound ls ms
+all_sound ls ms = list_all (is_sound ls) ms
 
 -- each loan has as many marks as the job wrote down
 abbrev pub all_counted : List Loan → List Mark → Bool
-all_counted [] ms = true
-all_counted (l ∷ ls) ms = l.strokes == marks_of l.number ms && all_counted ls ms
+all_counted ls ms = list_all (λ (l : Loan). l.strokes == marks_of l.number ms) ls
 
 -- the shelves are the job's: both counts and each loan's count of marks are those that the job knows, every mark is sound, and the
 -- marks' lengths add up to the count of kept bytes. The kept values, the order of the marks and the capacities are not looked at

@@ -10,7 +10,7 @@ use Rattle.loans.specs.declared.ledger.Loan.{Loan}
 use Rattle.loans.specs.declared.mark.Mark.{Mark}
 use Rattle.loans.specs.declared.mark.Shelves.{Shelves}
 use Rattle.loans.specs.Lists.{some_of}
-use Rattle.loans.specs.Books.{no_loan}
+use Rattle.loans.specs.Books.{no_loan, loan_with}
 use Rattle.loans.specs.Jobs.{Book, book_of}
 use Rattle.loans.specs.declared.painting.Spot.{Spot}
 use Rattle.loans.specs.Finding.{StandsAt}
@@ -53,8 +53,7 @@ Held s n who (Err e) = (rest : Option Refusal) → held_else s n who rest ≡ So
 
 -- a loan as the shelves count it
 abbrev pub counted_loan : List Mark → Loan → Loan
-counted_loan ms l =
-    record { number = l.number; borrower = l.borrower; piece = l.piece; area = l.area; strokes = marks_of l.number ms }
+counted_loan ms l = loan_with l (marks_of l.number ms)
 
 -- the job's counts are those of the shelves
 abbrev pub recounted : Book → Stock → Book

@@ -4,12 +4,7 @@ use Rattle.shelf.specs.Calls.{slid_down}
 use Rattle.loans.specs.declared.ending.Ending.{Ending}
 use Rattle.loans.specs.declared.ending.Ending.TheVariants.{Kept, Cancelled}
 use Rattle.loans.specs.declared.ledger.Ledger.{Ledger}
-use Rattle.loans.specs.declared.ledger.Loan.{Loan}
-use Rattle.loans.specs.Books.{no_loan}
-
--- the loan with so many strokes that it can undo
-abbrev pub loan_with : Loan → ℕ → Loan
-loan_with l n = record { number = l.number; borrower = l.borrower; piece = l.piece; area = l.area; strokes = n }
+use Rattle.loans.specs.Books.{no_loan, loan_with}
 
 -- the loan at a position has so many strokes, and the shelves so many marks and bytes
 abbrev pub ledger_counted : Ledger → ℕ → ℕ → ℕ → ℕ → Ledger

@@ -19,9 +19,10 @@ use Rattle.loans.specs.Stocks.{is_number, is_out, the_loan}
 use Rattle.loans.specs.Strokes.{stroke_place}
 use Rattle.loans.specs.Rules.{Deed, deed_of}
 use Rattle.loans.specs.Rules.Deed.{lend, paint, undo, keep, cancel}
-use Rattle.loans.specs.History.{Event, Stroke, written_down, history_of, granting, lent, out_in, stroke_of, covers, laying, standing}
+use Rattle.loans.specs.Lending.{granting}
+use Rattle.loans.specs.History.{Event, Stroke, written_down, history_of, lent, out_in, stroke_of, reach_over, covers, laying, standing}
 use Rattle.loans.specs.Law.{OfPiece}
-use Rattle.painters.specs.Tracing.{newest_over, paid_off, owing_more, owes_nothing, owed_before, owed, unless_out, piece_after, piece_out, area_for, reach_over, painter_by, no_call, no_answer, past_of, painter_at, IsNewest, NewestPainter, Traced}
+use Rattle.painters.specs.Tracing.{newest_over, paid_off, owing_more, owes_nothing, owed_before, owed, unless_out, piece_after, piece_out, area_for, painter_by, no_call, no_answer, past_of, painter_at, IsNewest, NewestPainter, Traced}
 use Rattle.loans.proofs.Outs.{out_less}
 use Rattle.loans.proofs.Searches.{some_append, first_none}
 use Rattle.loans.proofs.Runs.{law_run}
@@ -167,7 +168,7 @@ loan_less (l ∷ ls) m n ne = go (eqb m l.number) refl (loan_less ls m n ne)
     go false e rest = ap (λ (x : Loan). cond (eqb n l.number) l x) rest
 
 found_lent : (t : Table) (n : ℕ) (ls : List Loan) (o : Option Piece) (x : ℕ) (p : Piece) (who : ℕ) → exists_in t p ≡ true → PieceFound t n ls o
-    → PieceFound t n (ls ++ granting t x p who ∷ []) (unless_out o (eqb n x) p)
+    → PieceFound t n (ls ++ granting x p who (area_in t p) ∷ []) (unless_out o (eqb n x) p)
 found_lent t n ls (Some q) x p who exists f =
     record {
       out = some_append (is_number n) ls _ ∙ cond-true _ _ _ f.out;
@@ -177,7 +178,7 @@ found_lent t n ls (Some q) x p who exists f =
 found_lent t n ls None x p who exists f = go (eqb n x) refl
   where
     new : List Loan
-    new = granting t x p who ∷ []
+    new = granting x p who (area_in t p) ∷ []
 
     go : (b : Bool) → eqb n x ≡ b → PieceFound t n (ls ++ new) (cond b (Some p) None)
     go true e =

@@ -1,5 +1,5 @@
 -- Whose stroke lies over a byte, and how it is found without writing anything down.
-use Rattle.std.specs.Prelude.{◌≡◌, ℕ, ◌+◌, ◌-◌, Bool, false, cond, ◌&&◌, List, [], ◌∷◌, map, length, take, drop, Some, None, Ok, Err, Option, Result, MatchOption, ◌<◌, ◌==◌, nat_le, nat_lt, slice_index_or}
+use Rattle.std.specs.Prelude.{◌≡◌, ℕ, ◌+◌, ◌-◌, Bool, false, cond, ◌&&◌, List, [], ◌∷◌, map, length, take, drop, Some, None, Ok, Err, Option, Result, MatchOption, ◌<◌, ◌==◌, slice_index_or}
 use Rattle.std.specs.List.{AllByRecursion}
 use Rattle.refusal.specs.declared.Refusal.{Refusal}
 use Rattle.dds.specs.declared.area.Area.{Area}
@@ -13,7 +13,7 @@ use Rattle.loans.specs.Stocks.{Stock}
 use Rattle.loans.specs.Strokes.{stroke_place}
 use Rattle.loans.specs.Rules.{Deed, deed_of, answers_to}
 use Rattle.loans.specs.Rules.Deed.{lend, paint, undo, keep, cancel}
-use Rattle.loans.specs.History.{Event, Stroke, history_of, lent, standing, covers}
+use Rattle.loans.specs.History.{Event, Stroke, history_of, lent, standing, reach_over, covers}
 use Rattle.loans.specs.Law.{OfPiece}
 use Rattle.loans.specs.Runs.{opened_state}
 
@@ -91,10 +91,6 @@ piece_out n (e ∷ h) = piece_after n (piece_out n h) e.call e.answer
 abbrev pub area_for : Table → Option Piece → Area
 area_for t None = no_loan.area
 area_for t (Some p) = cond (exists_in t p) (area_in t p) no_loan.area
-
--- so many bytes from a place on reach over the byte at another
-abbrev pub reach_over : ℕ → ℕ → ℕ → Bool
-reach_over at n i = nat_le at i && nat_lt i (at + n)
 
 -- who painted by a call, where its stroke lies over the byte and stands
 abbrev pub painter_by : Table → (ℕ → Option Piece) → (ℕ → Option ℕ) → ℕ → Deed → Result ℕ Refusal → Option Painter
