@@ -9,12 +9,12 @@ use Rattle.loans.specs.declared.ledger.Ledger.{Ledger}
 use Rattle.loans.specs.declared.ledger.Loan.{Loan}
 use Rattle.loans.specs.declared.mark.Mark.{Mark}
 use Rattle.loans.specs.Lists.{less_all}
-use Rattle.loans.specs.Books.{Balanced, Inside, Given, Rising, outs, no_loan}
+use Rattle.loans.specs.Books.{Balanced, Inside, NumbersGiven, NumbersRise, outs, no_loan}
 use Rattle.loans.specs.Stocks.{is_number, of_loan, marks_of, all_counted}
 use Rattle.loans.specs.Strokes.{counted_loan}
 use Rattle.loans.specs.Finding.{StandsAt}
-use Rattle.loans.specs.Tallies.{Distinct}
 use Rattle.loans.specs.Writing.{kept_by, cancelled_by, ledger_ended}
+use Rattle.loans.proofs.Counting.{rise_in, rise_from}
 use Rattle.loans.proofs.Recounting.{other_number}
 use Rattle.loans.proofs.Searches.{less_at}
 use Rattle.loans.proofs.Slots.{none_has}
@@ -48,15 +48,15 @@ recount_less (l ∷ ls) n ms h = go (eqb n l.number) refl (recount_less ls n ms 
         λ i. record { number = l.number; borrower = l.borrower; piece = l.piece; area = l.area; strokes = strokes i } ∷ r i
 
 -- the loans without the one at a position
-pub less_here : (ls : List Loan) (n k : ℕ) → Distinct ls → StandsAt ls n k → less_all (is_number n) ls ≡ take k ls ++ drop (k + 1) ls
-less_here ls n k distinct at =
+pub less_here : (ls : List Loan) (n k : ℕ) → NumbersRise ls → StandsAt ls n k → less_all (is_number n) ls ≡ take k ls ++ drop (k + 1) ls
+less_here ls n k rising at =
     let on : suc k ≡ k + 1 = omega arith in
     less_at (is_number n) no_loan ls k at.inside
     (none_has (take k ls) n (λ j f. let f' : j < k = omega (arith, length-take-le k ls (omega (arith, at.inside))) in let ne : j ≢ k = omega arith in
-    subst (λ (x : Loan). x.number ≢ n) (sym (get_or-take k ls j no_loan f')) (other_number ls distinct n k j at (omega (arith, at.inside)) ne)))
+    subst (λ (x : Loan). x.number ≢ n) (sym (get_or-take k ls j no_loan f')) (other_number ls rising n k j at (omega (arith, at.inside)) ne)))
     (eq-eqb n (get_or ls k no_loan).number (sym at.number))
     (none_has (drop (suc k) ls) n (λ j f. let ne : suc k + j ≢ k = omega arith in
-    subst (λ (x : Loan). x.number ≢ n) (sym (get_or-drop (suc k) ls j no_loan)) (other_number ls distinct n k (suc k + j) at (omega (arith, length-drop (suc k) ls)) ne)))
+    subst (λ (x : Loan). x.number ≢ n) (sym (get_or-drop (suc k) ls j no_loan)) (other_number ls rising n k (suc k + j) at (omega (arith, length-drop (suc k) ls)) ne)))
     ∙ ap (λ i. take k ls ++ drop i ls) on
 
 module _ (l : Ledger) (b : Balanced l) (k more less m y : ℕ) (out : k < l.out) where
@@ -126,25 +126,34 @@ module _ (l : Ledger) (b : Balanced l) (k more less m y : ℕ) (out : k < l.out)
       let w = was j h in
       subst (λ (x : Loan). (x.area.place + x.area.length ≤ a) × (x.area.length ≡ x.area.row_bytes * x.area.rows)) (sym w.is) (inside w.old w.still)
 
-  pub ended_given : Given l → Given (ledger_ended l k more less m y)
+  pub ended_given : NumbersGiven l → NumbersGiven (ledger_ended l k more less m y)
   ended_given given j h = let w = was j h in subst (λ (x : Loan). x.number ≤ l.granted) (sym w.is) (given w.old w.still)
 
-  pub ended_rising : Rising l → Rising (ledger_ended l k more less m y)
-  ended_rising rising i j h f =
-      let g : i < l.out - 1 = omega arith in
-      ⊎_elim
-      (λ (below : i < k).
-      ⊎_elim
-      (λ (low : j < k). subst₂ Less (sym (at_below i g below)) (sym (at_below j f low)) (rising i j h (omega arith)))
-      (λ (high : k ≤ j). subst₂ Less (sym (at_below i g below)) (sym (at_above j f high)) (rising i (j + 1) (omega arith) (omega arith)))
-      (cases_lt j k))
-      (λ (above : k ≤ i).
-      let high : k ≤ j = omega arith in
-      subst₂ Less (sym (at_above i g above)) (sym (at_above j f high)) (rising (i + 1) (j + 1) (omega arith) (omega arith)))
-      (cases_lt i k)
+  pub ended_rising : more + less ≡ 1 → NumbersRise (outs l) → NumbersRise (outs (ledger_ended l k more less m y))
+  ended_rising one rising =
+      let c = (ended_balanced one).0 in
+      let d = (ended_balanced one).1 in
+      rise_from (ledger_ended l k more less m y) (omega arith) in_memory
     where
       Less : Loan → Loan → Type 0
       Less x y = x.number < y.number
+
+      was_less : (i j : ℕ) → i < j → j < l.out → Less (get_or l.loans i no_loan) (get_or l.loans j no_loan)
+      was_less = rise_in l b rising
+
+      in_memory : (i j : ℕ) → i < j → j < l.out - 1 → Less (get_or new i no_loan) (get_or new j no_loan)
+      in_memory i j h f =
+          let g : i < l.out - 1 = omega arith in
+          ⊎_elim
+          (λ (below : i < k).
+          ⊎_elim
+          (λ (low : j < k). subst₂ Less (sym (at_below i g below)) (sym (at_below j f low)) (was_less i j h (omega arith)))
+          (λ (high : k ≤ j). subst₂ Less (sym (at_below i g below)) (sym (at_above j f high)) (was_less i (j + 1) (omega arith) (omega arith)))
+          (cases_lt j k))
+          (λ (above : k ≤ i).
+          let high : k ≤ j = omega arith in
+          subst₂ Less (sym (at_above i g above)) (sym (at_above j f high)) (was_less (i + 1) (j + 1) (omega arith) (omega arith)))
+          (cases_lt i k)
 
 -- each ending counts one loan
 pub counts_one : (e : Ending) → kept_by e + cancelled_by e ≡ 1

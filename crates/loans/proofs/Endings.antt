@@ -16,7 +16,6 @@ use Rattle.loans.specs.Rules.Deed.{keep, cancel}
 use Rattle.loans.specs.Calls.{Carried}
 use Rattle.loans.specs.Writing.{ledger_ended}
 use Rattle.loans.proofs.Counting.{out_count}
-use Rattle.loans.proofs.Owning.{outs_distinct}
 use Rattle.loans.proofs.Allowed.{ours}
 use Rattle.loans.proofs.Ended.{ended_outs, less_here, recount_less}
 
@@ -38,7 +37,7 @@ module _ {s t : Job} {v w : Shelves} {n k more less : ℕ} (x : EndSteps s t v w
   outs_are : outs t.ledger ≡ map (counted_loan left.marks) (less_all (is_number n) (outs s.ledger))
   outs_are =
       ap outs x.ledger ∙ ended_outs s.ledger s.balanced k more less (length (stock_of w).marks) (length (stock_of w).bytes) inside
-      ∙ sym (less_here (outs s.ledger) n k (outs_distinct s.ledger s.balanced s.rising) x.loan)
+      ∙ sym (less_here (outs s.ledger) n k s.rising x.loan)
       ∙ sym (recount_less (outs s.ledger) n (contents v.marks) (ours (book_of s) (stock_of v) x.ours).counted)
 
   pub ended_book : book_of t ≡ recounted (book_without (book_of s) n more less) left

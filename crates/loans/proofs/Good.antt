@@ -8,15 +8,15 @@ use Rattle.std.proofs.lemmas.Bool.{eq-eqb, ne_eqb, and_parts}
 use Rattle.dds.specs.declared.area.Area.{Area}
 use Rattle.dds.specs.declared.piece.Piece.{Piece}
 use Rattle.dds.specs.declared.table.Table.{Table}
-use Rattle.dds.specs.Places.{exists_in}
+use Rattle.dds.specs.Places.{area_in, exists_in}
 use Rattle.loans.specs.declared.ledger.Loan.{Loan}
-use Rattle.loans.specs.Lists.{Among, less_first, less_all}
-use Rattle.loans.specs.Lending.{piece_is_out}
+use Rattle.loans.specs.Lists.{less_first, less_all}
+use Rattle.loans.specs.Lending.{granting, piece_is_out}
 use Rattle.loans.specs.Stocks.{is_number, is_out, the_loan}
 use Rattle.loans.specs.Strokes.{Painting, stroke_place}
-use Rattle.loans.specs.History.{Stroke, granting, stroke_of, stroke_length, covers, laying, undoable}
-use Rattle.loans.specs.Law.{Numbered, OfPiece, Spans, Apart, InRow}
-use Rattle.loans.proofs.Listed.{all_of, all_among, Split, all_less_first, kept_by_same, among_kept_by, some_of_push}
+use Rattle.loans.specs.History.{Stroke, stroke_of, stroke_length, covers, laying, undoable}
+use Rattle.loans.specs.Law.{NumberedFromOne, OfPiece, Spans, Apart, InRow}
+use Rattle.loans.proofs.Listed.{Among, among_from, all_of, all_among, Split, all_less_first, kept_by_same, among_kept_by, some_of_push}
 use Rattle.loans.proofs.Underneath.{covers_parts}
 use Rattle.loans.proofs.Lawful.{Lawful}
 use Rattle.loans.proofs.Soundness.{Spares, Sized, Sound, sound_fewer}
@@ -45,25 +45,25 @@ pub record Laid (opening : List ℕ) (ls : List Loan) (s : Stroke) : Type 0 wher
 abbrev pub Single : List Loan → Type 0
 Single os = (a b : Loan) → Among os a → Among os b → a.piece ≡ b.piece → a ≡ b
 
-pub record Fits (mm mb : ℕ) (ss : List Stroke) : Type 0 where
+pub record FitsShelves (mm mb : ℕ) (ss : List Stroke) : Type 0 where
   pub marks : length ss ≤ mm
   pub bytes : length (all_below ss) ≤ mb
 
 -- of the loans ever granted, the loans out and the strokes that stand
 pub record Good (t : Table) (mm mb : ℕ) (opening : List ℕ) (ls os : List Loan) (ss : List Stroke) : Type 0 where
-  pub numbers : Numbered ls
+  pub numbers : NumberedFromOne ls
   pub pieces : AllByRecursion (OfPiece t) ls
   pub lent : AllByRecursion (Lent t ls) os
   pub once : Rising os
   pub single : Single os
   pub laid : AllByRecursion (Laid opening ls) ss
   pub sound : Sound opening os ss
-  pub fits : Fits mm mb (undoable os ss)
+  pub fits : FitsShelves mm mb (undoable os ss)
 
 pub all_sized : (opening : List ℕ) (ls : List Loan) (ss : List Stroke) → AllByRecursion (Laid opening ls) ss → AllByRecursion (Sized opening) ss
 all_sized opening ls ss h = All-weaker (Laid opening ls) (Sized opening) (λ s r. r.sized) ss h
 
-fits_fewer : (mm mb : ℕ) (v w : List Stroke) → Fewer w v → Fits mm mb v → Fits mm mb w
+fits_fewer : (mm mb : ℕ) (v w : List Stroke) → Fewer w v → FitsShelves mm mb v → FitsShelves mm mb w
 fits_fewer mm mb v w f h = let a = h.marks in let b = h.bytes in let c = f.0 in let d = f.1 in record { marks = omega arith; bytes = omega arith }
 
 among_push : (os : List Loan) (o a : Loan) → Among (os ++ o ∷ []) a → Among os a ⊎ (a ≡ o)
@@ -93,7 +93,7 @@ row_in ls ls' s e k h = record {
 }
 
 -- a loan granted leaves the loans before it as they were
-module _ (ls : List Loan) (numbers : Numbered ls) (new : Loan) (fresh : new.number ≡ length ls + 1) where
+module _ (ls : List Loan) (numbers : NumberedFromOne ls) (new : Loan) (fresh : new.number ≡ length ls + 1) where
   other : (m : ℕ) → is_out ls m ≡ true → eqb m new.number ≡ false
   other m h = let a = numbered_known ls m numbers h in ne_eqb m new.number (λ e. omega arith)
 
@@ -125,17 +125,20 @@ module _ (t : Table) (mm mb : ℕ) (opening : List ℕ) where
     all_even = undoable_all os Even ss (All-weaker (Laid opening ls) Even (λ s r. r.sized.0) ss good.laid)
 
     -- no byte lies in the spans of two loans out
-    pub outs_apart : Lawful t (length opening) → Apart os
-    outs_apart lawful place a b m m' v w =
+    one_spans : Lawful t (length opening) → (place : ℕ) (a b : Loan) → Among os a → Among os b → Spans a place → Spans b place → a ≡ b
+    one_spans lawful place a b m m' v w =
         let p = (all_among (Lent t ls) os a good.lent m).of_piece in
         let q = (all_among (Lent t ls) os b good.lent m').of_piece in
         let In : ℕ → Area → Type 0 = λ i r. (r.place ≤ i) × (i < r.place + r.length) in
         good.single a b m m' (lawful.apart a.piece b.piece place p.0 q.0 (subst (In place) p.1 v) (subst (In place) q.1 w))
 
+    pub outs_apart : Lawful t (length opening) → Apart os
+    outs_apart lawful place a b m m' = one_spans lawful place a b (among_from os a m) (among_from os b m')
+
     -- a loan granted
     module _ (p : Piece) (who : ℕ) (there : exists_in t p ≡ true) (free : piece_is_out os p ≡ false) where
       abbrev new : Loan
-      new = granting t (length ls + 1) p who
+      new = granting (length ls + 1) p who (area_in t p)
 
       out_same : (m : ℕ) → is_out ls m ≡ true → is_out (os ++ new ∷ []) m ≡ is_out os m
       out_same m h = some_of_push (is_number m) os new (other ls good.numbers new refl m h)
@@ -182,7 +185,7 @@ module _ (t : Table) (mm mb : ℕ) (opening : List ℕ) where
         single = single_loan;
         laid = All-weaker (Laid opening ls) (Laid opening (new ∷ ls)) laid_old ss good.laid;
         sound = sound_fewer opening os (os ++ new ∷ []) ss (All-weaker (Laid opening ls) _ (λ s r. subst (λ b. b ≡ true) (out_same s.painting.loan r.inside.lent)) ss good.laid) good.sound;
-        fits = subst (Fits mm mb) (sym undoable_lent) good.fits;
+        fits = subst (FitsShelves mm mb) (sym undoable_lent) good.fits;
       }
 
     -- a stroke painted
@@ -228,7 +231,7 @@ module _ (t : Table) (mm mb : ℕ) (opening : List ℕ) where
       spares : (j : Stroke) → Laid opening ls j → Spares os stroke j
       spares j r o ne i c d =
           ne (sym (the_out os j.painting.loan o).1
-          ∙ (ap (λ (l : Loan). l.number) (outs_apart lawful i (the_loan os j.painting.loan) (the_loan os p.loan) (the_out os _ o).0 (the_out os _ out).0 (within j r c o) (within stroke laying_laid d out))
+          ∙ (ap (λ (l : Loan). l.number) (one_spans lawful i (the_loan os j.painting.loan) (the_loan os p.loan) (the_out os _ o).0 (the_out os _ out).0 (within j r c o) (within stroke laying_laid d out))
           ∙ (the_out os p.loan out).1))
         where
           within : (k : Stroke) → Laid opening ls k → covers k i ≡ true → is_out os k.painting.loan ≡ true → Spans (the_loan os k.painting.loan) i
@@ -255,7 +258,7 @@ module _ (t : Table) (mm mb : ℕ) (opening : List ℕ) where
             single = good.single;
             laid = (laying_laid, good.laid);
             sound = (λ o. refl, All-weaker (Laid opening ls) (Spares os stroke) spares ss good.laid, good.sound);
-            fits = subst (Fits mm mb) (sym (undoable_cons os stroke ss out)) (record { marks = omega arith; bytes = omega arith });
+            fits = subst (FitsShelves mm mb) (sym (undoable_cons os stroke ss out)) (record { marks = omega arith; bytes = omega arith });
           }
 
     -- the newest stroke of a loan taken back
@@ -282,8 +285,8 @@ module _ (t : Table) (mm mb : ℕ) (opening : List ℕ) where
       single_end : Single (less_all (is_number n) os)
       single_end a b u v = good.single a b (among_kept_by _ os a u).0 (among_kept_by _ os b v).0
 
-      fits_end : Fits mm mb (undoable (less_all (is_number n) os) ss)
-      fits_end = subst (Fits mm mb) (sym (undoable_kept os n ss)) (fits_fewer mm mb _ _ (fewer_kept (λ s. not (stroke_of n s)) (undoable os ss)) good.fits)
+      fits_end : FitsShelves mm mb (undoable (less_all (is_number n) os) ss)
+      fits_end = subst (FitsShelves mm mb) (sym (undoable_kept os n ss)) (fits_fewer mm mb _ _ (fewer_kept (λ s. not (stroke_of n s)) (undoable os ss)) good.fits)
 
       pub good_keep : Good t mm mb opening ls (less_all (is_number n) os) ss
       good_keep = record {
@@ -306,5 +309,5 @@ module _ (t : Table) (mm mb : ℕ) (opening : List ℕ) where
         single = single_end;
         laid = all_kept_by (λ s. not (stroke_of n s)) (Laid opening ls) ss good.laid;
         sound = sound_fewer opening os _ _ (all_of _ (λ s. still_out s.painting.loan) (less_all (stroke_of n) ss)) (cancel_file os opening n out _ ss refl good.sound (all_sized opening ls ss good.laid)).1;
-        fits = subst (Fits mm mb) (sym (undoable_cancelled os n ss)) fits_end;
+        fits = subst (FitsShelves mm mb) (sym (undoable_cancelled os n ss)) fits_end;
       }

@@ -14,10 +14,10 @@ use Rattle.loans.specs.Jobs.{Book, book_of}
 use Rattle.loans.specs.Stocks.{Stock, stock_of, is_number, is_out, the_loan}
 use Rattle.loans.specs.Strokes.{State, counted_loan, is_other_length}
 use Rattle.loans.specs.Ending.{keep_refusal, kept_book, cancel_refusal, cancelled}
-use Rattle.loans.specs.Rules.{Deed, refusal_of, carried_out, left, after}
+use Rattle.loans.specs.Rules.{Deed, call_refusal, carried_out, left, after}
 use Rattle.loans.specs.Rules.Deed.{lend, paint, undo, keep, cancel}
 use Rattle.loans.specs.Calls.{Called}
-use Rattle.loans.specs.Handed.{Step, state_with, later_book, names, TurnedDown, HandedIn, HandedWhere, HandedBy}
+use Rattle.loans.specs.Handed.{Step, state_with, later_book, is_on, RefusedAsNotOut, HandedIn, HandedWhere, HandedBy}
 use Rattle.loans.proofs.Counting.{out_count, out_at}
 use Rattle.loans.proofs.Passing.{passed}
 use Rattle.loans.proofs.Listed.{some_of_map, some_of_push, some_of_none, none_less_all, first_among, all_among}
@@ -60,17 +60,17 @@ gone_carried n s g (keep m) = record { not_out = without_out n _ s.book.outs m g
 gone_carried n s g (cancel m) = record { not_out = without_out n _ s.book.outs m g.not_out; given = g.given }
 
 gone_after : (n : ℕ) (s : State) → Gone n s.book → (d : Deed) → Gone n (after s d).book
-gone_after n s g d = left_either (λ (x : State). Gone n x.book) (refusal_of s d) s (carried_out s d) g (gone_carried n s g d)
+gone_after n s g d = left_either (λ (x : State). Gone n x.book) (call_refusal s d) s (carried_out s d) g (gone_carried n s g d)
 
 gone_later : (n : ℕ) (xs : List Step) (b : Book) → Gone n b → Gone n (later_book b xs)
 gone_later n [] b g = g
 gone_later n (x ∷ xs) b g = gone_later n xs _ (gone_after n (state_with b x.file x.stock) g x.deed)
 
 -- the file is looked at first, then the loan
-by_length : (s : State) (d : Deed) → refusal_of s d ≡ cond (is_other_length s) (Some OtherLength) (Some LoanNotOut) → TurnedDown s d
+by_length : (s : State) (d : Deed) → call_refusal s d ≡ cond (is_other_length s) (Some OtherLength) (Some LoanNotOut) → RefusedAsNotOut s d
 by_length s d e = go (eqb (length s.file) s.book.table.length) refl e
   where
-    go : (b : Bool) → eqb (length s.file) s.book.table.length ≡ b → refusal_of s d ≡ cond (not b) (Some OtherLength) (Some LoanNotOut) → TurnedDown s d
+    go : (b : Bool) → eqb (length s.file) s.book.table.length ≡ b → call_refusal s d ≡ cond (not b) (Some OtherLength) (Some LoanNotOut) → RefusedAsNotOut s d
     go true q r = record { reason = LoanNotOut; refused = r; unchanged = ap (λ x. left x s (carried_out s d)) r; not_out = λ h. refl }
     go false q r =
         record {
@@ -80,26 +80,26 @@ by_length s d e = go (eqb (length s.file) s.book.table.length) refl e
           not_out = λ h. absurd (true≢false (sym (eq-eqb (length s.file) s.book.table.length h) ∙ q));
         }
 
-turned_down : (n : ℕ) (s : State) → is_out s.book.outs n ≡ false → (d : Deed) → names n d ≡ true → TurnedDown s d
-turned_down n s g (lend p who) h = absurd (false≢true h)
-turned_down n s g (paint p) h =
+refused_as_not_out : (n : ℕ) (s : State) → is_out s.book.outs n ≡ false → (d : Deed) → is_on n d ≡ true → RefusedAsNotOut s d
+refused_as_not_out n s g (lend p who) h = absurd (false≢true h)
+refused_as_not_out n s g (paint p) h =
     let out : is_out s.book.outs p.loan ≡ false = subst (λ m. is_out s.book.outs m ≡ false) (eqb-true n p.loan h) g in
     by_length s (paint p) (rw out refl)
-turned_down n s g (undo m who) h =
+refused_as_not_out n s g (undo m who) h =
     let out : is_out s.book.outs m ≡ false = subst (λ x. is_out s.book.outs x ≡ false) (eqb-true n m h) g in
     by_length s (undo m who) (rw out refl)
-turned_down n s g (keep m) h =
+refused_as_not_out n s g (keep m) h =
     let out : is_out s.book.outs m ≡ false = subst (λ x. is_out s.book.outs x ≡ false) (eqb-true n m h) g in
-    let r : refusal_of s (keep m) ≡ Some LoanNotOut = rw out refl in
+    let r : call_refusal s (keep m) ≡ Some LoanNotOut = rw out refl in
     record { reason = LoanNotOut; refused = r; unchanged = ap (λ x. left x s (carried_out s (keep m))) r; not_out = λ e. refl }
-turned_down n s g (cancel m) h =
+refused_as_not_out n s g (cancel m) h =
     let out : is_out s.book.outs m ≡ false = subst (λ x. is_out s.book.outs x ≡ false) (eqb-true n m h) g in
     by_length s (cancel m) (rw out refl)
 
 -- a given number whose loan is not out is handed in
 pub handed_in : (b : Book) (n : ℕ) → is_out b.outs n ≡ false → n ≤ b.granted → HandedIn n b
 handed_in b n out given xs f k d h =
-    let g = gone_later n xs b (record { not_out = out; given = given }) in turned_down n (state_with (later_book b xs) f k) g.not_out d h
+    let g = gone_later n xs b (record { not_out = out; given = given }) in refused_as_not_out n (state_with (later_book b xs) f k) g.not_out d h
 
 -- the numbers of the loans out were given
 abbrev pub NumbersGiven : Book → Type 0

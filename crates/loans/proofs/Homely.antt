@@ -7,7 +7,7 @@ use Rattle.dds.specs.Places.{exists_in}
 use Rattle.loans.specs.Lending.{piece_is_out}
 use Rattle.loans.specs.Stocks.{is_out, the_loan, marks_of, are_ours}
 use Rattle.loans.specs.Strokes.{State, is_other_length, is_outside_row, lacks_space}
-use Rattle.loans.specs.Rules.{Deed, refusal_of, reply}
+use Rattle.loans.specs.Rules.{Deed, call_refusal, refusal_or}
 use Rattle.loans.specs.Rules.Deed.{lend, paint, undo, keep, cancel}
 
 -- neither another length nor foreign shelves
@@ -58,7 +58,7 @@ module _ (s : State) (same : is_other_length s ≡ false) (ours : are_ours s.boo
   not_foreign : not (are_ours s.book s.stock) ≡ false
   not_foreign = not_from_true _ ours
 
-  pub homely : (d : Deed) → Homely (refusal_of s d)
+  pub homely : (d : Deed) → Homely (call_refusal s d)
   homely (lend p who) =
       homely_cond (not (exists_in s.book.table p)) _ _ is_no_such_piece
       (homely_cond (piece_is_out s.book.outs p) _ _ is_piece_out
@@ -85,6 +85,6 @@ module _ (s : State) (same : is_other_length s ≡ false) (ours : are_ours s.boo
       (homely_cond (not (is_out s.book.outs n)) _ _ is_loan_not_out
       (homely_false (not (are_ours s.book s.stock)) ForeignShelves _ not_foreign homely_none))
 
-pub reply_home : (r : Option Refusal) (n : ℕ) → Homely r → (reply r n ≡ Err OtherLength → ⊥) × (reply r n ≡ Err ForeignShelves → ⊥)
-reply_home None n h = (λ q. (let z : ◌≡◌ {A = ℕ} 0 1 = cc in absurd (omega arith)), λ q. (let z : ◌≡◌ {A = ℕ} 0 1 = cc in absurd (omega arith)))
-reply_home (Some d) n h = (λ q. h.0 (cc), λ q. h.1 (cc))
+pub homely_answer : (r : Option Refusal) (n : ℕ) → Homely r → (refusal_or r n ≡ Err OtherLength → ⊥) × (refusal_or r n ≡ Err ForeignShelves → ⊥)
+homely_answer None n h = (λ q. (let z : ◌≡◌ {A = ℕ} 0 1 = cc in absurd (omega arith)), λ q. (let z : ◌≡◌ {A = ℕ} 0 1 = cc in absurd (omega arith)))
+homely_answer (Some d) n h = (λ q. h.0 (cc), λ q. h.1 (cc))

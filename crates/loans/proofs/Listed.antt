@@ -1,13 +1,26 @@
 -- Lists, tests and members.
-use Rattle.std.proofs.Common.{◌≡◌, Bool, true, false, cond, not, ◌&&◌, ◌⊎◌, List, [], ◌∷◌, ◌++◌, map, reverse, filter, sym, refl, ap, ◌∙◌, inl, inr, append-nil}
+use Rattle.std.proofs.Common.{◌≡◌, ℕ, zero, suc, ◌<◌, Bool, true, false, cond, not, ◌&&◌, ◌⊎◌, List, [], ◌∷◌, ◌++◌, map, reverse, length, get_or, filter, arith, sym, refl, ap, ◌∙◌, inl, inr, append-nil}
 use mathlib.Core.List.{reverse-cons}
-use Rattle.std.specs.List.{AllByRecursion}
+use Rattle.std.specs.List.{AllByRecursion, Contains}
 use Rattle.std.proofs.lemmas.List.Elements.{filter-append}
 use Rattle.std.proofs.ByRecursion.{All-push}
 use Rattle.std.proofs.lemmas.Bool.{false≢true}
-use Rattle.loans.specs.Lists.{Among, first_or, some_of, less_first, less_all}
+use Rattle.loans.specs.Lists.{first_or, some_of, less_first, less_all}
 
 module _ {A : Type 0} where
+  -- a is one of a list
+  abbrev pub Among : List A → A → Type 0
+  Among [] a = ⊥
+  Among (x ∷ xs) a = (a ≡ x) ⊎ Among xs a
+
+  pub among_from : (xs : List A) (a : A) → Contains xs a → Among xs a
+  among_from xs a c = at xs c.0 c.1 c.2
+    where
+      at : (ys : List A) (k : ℕ) → k < length ys → get_or ys k a ≡ a → Among ys a
+      at [] k h e = absurd (omega arith)
+      at (y ∷ ys) zero h e = inl (sym e)
+      at (y ∷ ys) (suc k) h e = inr (at ys k (omega arith) e)
+
   pub all_right : (P : A → Type 0) (xs ys : List A) → AllByRecursion P (xs ++ ys) → AllByRecursion P ys
   all_right P [] ys h = h
   all_right P (x ∷ xs) ys h = all_right P xs ys h.1

@@ -6,7 +6,7 @@ use Rattle.std.proofs.lemmas.Bool.{eqb-true, eqb-false, eq-eqb, ne_eqb, and_righ
 use Rattle.dds.specs.declared.piece.Piece.{Piece}
 use Rattle.loans.specs.declared.ledger.Loan.{Loan}
 use Rattle.loans.specs.declared.mark.Mark.{Mark}
-use Rattle.loans.specs.Lists.{Among, less_all}
+use Rattle.loans.specs.Lists.{less_all}
 use Rattle.loans.specs.Books.{no_loan}
 use Rattle.loans.specs.Jobs.{Book}
 use Rattle.loans.specs.Lending.{same_piece, piece_is_out}
@@ -14,8 +14,8 @@ use Rattle.loans.specs.Stocks.{Stock, is_number, is_out, the_loan, of_loan, mark
 use Rattle.loans.specs.Strokes.{counted_loan, recounted}
 use Rattle.loans.specs.Ending.{stock_without, book_without}
 use Rattle.loans.specs.History.{Stroke, stroke_of, undoable, mark_of, shelved}
-use Rattle.loans.specs.Law.{Numbered}
-use Rattle.loans.proofs.Listed.{all_of, less_all_none, kept_by_same, kept_by_twice, kept_by_reverse, kept_by_map, first_among, some_of_map}
+use Rattle.loans.specs.Law.{NumberedFromOne}
+use Rattle.loans.proofs.Listed.{Among, all_of, less_all_none, kept_by_same, kept_by_twice, kept_by_reverse, kept_by_map, first_among, some_of_map}
 use Rattle.loans.proofs.Shelved.{live, Even, bytes_of_is}
 
 -- the loan of a number that is out
@@ -101,7 +101,7 @@ one_less n (l ∷ ls) r h = go (is_number n l) refl h (one_less n ls r.1)
     go false e h' later = ap suc (later h')
 
 -- the numbers given so far
-pub numbered_known : (ls : List Loan) (n : ℕ) → Numbered ls → is_out ls n ≡ true → n ≤ length ls
+pub numbered_known : (ls : List Loan) (n : ℕ) → NumberedFromOne ls → is_out ls n ≡ true → n ≤ length ls
 numbered_known [] n r h = absurd (false≢true h)
 numbered_known (l ∷ ls) n r h = go (is_number n l) refl h (numbered_known ls n r.1)
   where

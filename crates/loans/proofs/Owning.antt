@@ -1,27 +1,17 @@
 -- When shelves are a job's, by the counts of one pass.
 use Rattle.std.proofs.Common.{◌≡◌, ℕ, ◌≤◌, Bool, true, false, ◌&&◌, eqb, List, length, sym, refl, ap, ◌∙◌, subst, ap₂, subst₂, arith}
-use Rattle.std.proofs.lemmas.List.{get_or-take}
 use Rattle.std.proofs.lemmas.Bool.{eq-eqb}
 use Rattle.shelf.specs.Model.{contents}
 use Rattle.loans.specs.declared.job.Job.{Job}
-use Rattle.loans.specs.declared.ledger.Ledger.{Ledger}
 use Rattle.loans.specs.declared.ledger.Loan.{Loan}
 use Rattle.loans.specs.declared.mark.Mark.{Mark}
 use Rattle.loans.specs.declared.mark.Shelves.{Shelves}
-use Rattle.loans.specs.Books.{Balanced, Rising, outs, no_loan}
+use Rattle.loans.specs.Books.{outs}
 use Rattle.loans.specs.Jobs.{Book, book_of}
 use Rattle.loans.specs.Stocks.{Stock, stock_of, are_ours, all_counted, all_sound, lengths}
-use Rattle.loans.specs.Tallies.{Distinct, Tally, agree}
+use Rattle.loans.specs.Tallies.{Tally, agree}
 use Rattle.loans.proofs.Counting.{out_count}
 use Rattle.loans.proofs.Tallying.{agree_counted}
-
--- the loans out of a job have each its own number
-pub outs_distinct : (l : Ledger) → Balanced l → Rising l → Distinct (outs l)
-outs_distinct l b rising j k h i =
-    let n = out_count l b in
-    let x = ap (λ (y : Loan). y.number) (get_or-take l.out l.loans j no_loan (omega arith)) in
-    let y = ap (λ (y : Loan). y.number) (get_or-take l.out l.loans k no_loan (omega arith)) in
-    omega (arith, rising j k h (omega arith))
 
 module _ (b : Book) (k : Stock) where
   pub tallied : length k.marks ≡ b.marks → length k.bytes ≡ b.bytes → (counts : List ℕ) → length b.outs ≤ 32

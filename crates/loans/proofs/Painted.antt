@@ -17,7 +17,6 @@ use Rattle.loans.specs.Calls.{Carried}
 use Rattle.loans.specs.Writing.{ledger_counted}
 use Rattle.loans.proofs.Counting.{out_count, out_inside}
 use Rattle.loans.proofs.Tallying.{marks_few}
-use Rattle.loans.proofs.Owning.{outs_distinct}
 use Rattle.loans.proofs.Recounting.{counted_at, counted_outs, recount_at}
 use Rattle.loans.proofs.Allowed.{may_paint, stroke_inside, ours}
 
@@ -65,7 +64,7 @@ recounts s t k n v w e stands others layout ledger =
     let out : k < s.ledger.out = omega (arith, stands.inside, out_count s.ledger s.balanced) in
     let loans : outs t.ledger ≡ map (counted_loan w.marks) (outs s.ledger) =
     ap outs ledger ∙ counted_outs s.ledger s.balanced k (marks_of n w.marks) (length w.marks) (length w.bytes) out
-    ∙ recount_at (outs s.ledger) v.marks w.marks n k o.counted (outs_distinct s.ledger s.balanced s.rising) stands others in
+    ∙ recount_at (outs s.ledger) v.marks w.marks n k o.counted s.rising stands others in
     λ i. record {
       table = (layout i).table;
       number = (ledger i).number;

@@ -5,12 +5,12 @@ use Rattle.std.proofs.lemmas.Bool.{cases_order, eqb-true, and_parts}
 use Rattle.loans.specs.declared.ledger.Ledger.{Ledger}
 use Rattle.loans.specs.declared.ledger.Loan.{Loan}
 use Rattle.loans.specs.declared.mark.Mark.{Mark}
-use Rattle.loans.specs.Books.{Balanced, Inside, Given, Rising, outs, no_loan}
+use Rattle.loans.specs.Books.{Balanced, Inside, NumbersGiven, NumbersRise, outs, no_loan, loan_with}
 use Rattle.loans.specs.Stocks.{marks_of, all_counted}
 use Rattle.loans.specs.Strokes.{counted_loan}
 use Rattle.loans.specs.Finding.{StandsAt}
-use Rattle.loans.specs.Tallies.{Distinct}
-use Rattle.loans.specs.Writing.{loan_with, ledger_counted}
+use Rattle.loans.specs.Writing.{ledger_counted}
+use Rattle.loans.proofs.Counting.{rise_in, rise_from}
 
 -- two positions are the same or not
 pub same_or_not : (j k : ℕ) → (j ≡ k) ⊎ (j ≢ k)
@@ -30,18 +30,18 @@ get_or_map_loan g (l ∷ ls) zero f = refl
 get_or_map_loan g (l ∷ ls) (suc k) f = get_or_map_loan g ls k (omega arith)
 
 -- no other loan has the number
-pub other_number : (ls : List Loan) → Distinct ls → (n k j : ℕ) → StandsAt ls n k → j < length ls → j ≢ k → (get_or ls j no_loan).number ≢ n
-other_number ls distinct n k j at h ne e =
+pub other_number : (ls : List Loan) → NumbersRise ls → (n k j : ℕ) → StandsAt ls n k → j < length ls → j ≢ k → (get_or ls j no_loan).number ≢ n
+other_number ls rising n k j at h ne e =
     ⊎_elim (λ (same : j ≡ k). ne same)
-    (⊎_elim (λ (less : j < k). omega (arith, distinct j k less at.inside, at.number))
-    (λ (more : k < j). omega (arith, distinct k j more h, at.number)))
+    (⊎_elim (λ (less : j < k). omega (arith, rising j k less at.inside, at.number))
+    (λ (more : k < j). omega (arith, rising k j more h, at.number)))
     (cases_order j k)
 
 -- where only the marks of one loan changed in number, one count written anew counts all loans
-pub recount_at : (ls : List Loan) (ms ms' : List Mark) (n k : ℕ) → all_counted ls ms ≡ true → Distinct ls → StandsAt ls n k
+pub recount_at : (ls : List Loan) (ms ms' : List Mark) (n k : ℕ) → all_counted ls ms ≡ true → NumbersRise ls → StandsAt ls n k
     → ((m : ℕ) → m ≢ n → marks_of m ms' ≡ marks_of m ms)
     → set ls k (loan_with (get_or ls k no_loan) (marks_of n ms')) ≡ map (counted_loan ms') ls
-recount_at ls ms ms' n k counted distinct at others =
+recount_at ls ms ms' n k counted rising at others =
     ext_get_or no_loan new all (length-set _ _ _ ∙ sym (length-map ls (counted_loan ms'))) (λ j f. each j (omega (arith, length-set ls k (loan_with (get_or ls k no_loan) (marks_of n ms')))) (same_or_not j k))
   where
     new : List Loan
@@ -57,7 +57,7 @@ recount_at ls ms ms' n k counted distinct at others =
         ∙ sym (ap (λ i. get_or all i no_loan) same ∙ get_or_map_loan (counted_loan ms') ls k at.inside)
     each j f (inr ne) =
         get_or-set_other ls k j _ no_loan ne
-        ∙ ap (loan_with (get_or ls j no_loan)) (counted_at ls ms counted j f ∙ sym (others (get_or ls j no_loan).number (other_number ls distinct n k j at f ne)))
+        ∙ ap (loan_with (get_or ls j no_loan)) (counted_at ls ms counted j f ∙ sym (others (get_or ls j no_loan).number (other_number ls rising n k j at f ne)))
         ∙ sym (get_or_map_loan (counted_loan ms') ls j f)
 
 -- the first loans of a ledger with one changed among them
@@ -106,8 +106,12 @@ module _ (l : Ledger) (b : Balanced l) (k n m y : ℕ) (out : k < l.out) where
   counted_inside a inside j h =
       subst (λ (x : Loan). (x.area.place + x.area.length ≤ a) × (x.area.length ≡ x.area.row_bytes * x.area.rows)) (sym (same_loan j)) (inside j h)
 
-  pub counted_given : Given l → Given (ledger_counted l k n m y)
+  pub counted_given : NumbersGiven l → NumbersGiven (ledger_counted l k n m y)
   counted_given given j h = subst (λ (x : Loan). x.number ≤ l.granted) (sym (same_loan j)) (given j h)
 
-  pub counted_rising : Rising l → Rising (ledger_counted l k n m y)
-  counted_rising rising i j h f = subst₂ (λ (x y : Loan). x.number < y.number) (sym (same_loan i)) (sym (same_loan j)) (rising i j h f)
+  pub counted_rising : NumbersRise (outs l) → NumbersRise (outs (ledger_counted l k n m y))
+  counted_rising rising =
+      let c = b.0 in
+      let d = b.1 in
+      rise_from (ledger_counted l k n m y) (omega (arith, length-set l.loans k (loan_with (get_or l.loans k no_loan) n)))
+      (λ i j h f. subst₂ (λ (x y : Loan). x.number < y.number) (sym (same_loan i)) (sym (same_loan j)) (rise_in l b rising i j h f))

@@ -12,20 +12,20 @@ use Rattle.loans.specs.Strokes.{State, state_of}
 use Rattle.loans.specs.Rules.{answers_to, after_all}
 use Rattle.loans.specs.History.{history_of}
 use Rattle.loans.specs.Law.{Law}
-use Rattle.loans.specs.Runs.{opened_state, is_empty, OursAlong, AllDone, Ordered, OpenedAs, RanSo}
+use Rattle.loans.specs.Runs.{opened_state, is_empty, OursAlong, AllDone, Ordered, FileOpened, RanSo}
 use Rattle.loans.proofs.Calls.{answers_to_length}
 use Rattle.loans.proofs.Runs.{law_run, ours_run}
 
 -- what the opening of a run gave
 pub record OpenedJob (o : Ordered) (t : Job) : Type 0 where
-  pub opened : OpenedAs o (Ok t.layout)
+  pub opened : FileOpened o (Ok t.layout)
   pub book : book_of t ≡ fresh_book t.layout.table (Some o.number)
 
 -- a job made of the layout that was read
-pub made_job : (o : Ordered) (t : Job) (y : Layout) → OpenedAs o (Ok y)
+pub made_job : (o : Ordered) (t : Job) (y : Layout) → FileOpened o (Ok y)
     → t.layout ≡ y → book_of t ≡ fresh_book y.table (Some o.number) → OpenedJob o t
 made_job o t y opened layout book = record {
-  opened = subst (λ (x : Layout). OpenedAs o (Ok x)) (sym layout) opened;
+  opened = subst (λ (x : Layout). FileOpened o (Ok x)) (sym layout) opened;
   book = book ∙ ap (λ (x : Layout). fresh_book x.table (Some o.number)) (sym layout);
 }
 

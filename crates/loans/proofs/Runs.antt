@@ -9,15 +9,15 @@ use Rattle.dds.specs.declared.table.Table.{Table}
 use Rattle.loans.specs.Jobs.{fresh_book}
 use Rattle.loans.specs.Stocks.{Stock, are_ours}
 use Rattle.loans.specs.Strokes.{State}
-use Rattle.loans.specs.Rules.{Deed, refusal_of, carried_out, number_for, reply, left, answer_to, after, answers_to, after_all}
+use Rattle.loans.specs.Rules.{Deed, call_refusal, carried_out, number_for, refusal_or, left, answer_to, after, answers_to, after_all}
 use Rattle.loans.specs.Rules.Deed.{lend, paint, undo, keep, cancel}
-use Rattle.loans.specs.History.{Event, written_down, lent, out_in, keeps_in, cancels_in, standing, ever_laid, byte_under, undoable, mark_of, told}
-use Rattle.loans.specs.Law.{Answered, AtHome, Law}
-use Rattle.loans.specs.Runs.{opened_state, LawfulRun}
+use Rattle.loans.specs.History.{Event, written_down, history_of, lent, out_in, keeps_in, cancels_in, standing, ever_laid, byte_under, undoable, mark_of, told}
+use Rattle.loans.specs.Law.{Answered, TakenAsOwn, Law}
+use Rattle.loans.specs.Runs.{opened_state}
 use Rattle.loans.proofs.Lawful.{Lawful, lawful}
 use Rattle.loans.proofs.Good.{good_none, outs_apart}
 use Rattle.loans.proofs.Ours.{told_ours, told_same, told_length}
-use Rattle.loans.proofs.Homely.{homely, reply_home}
+use Rattle.loans.proofs.Homely.{homely, homely_answer}
 use Rattle.loans.proofs.Steps.{Fine, Next, step_lend, step_paint, step_undo, step_keep, step_cancel}
 
 module _ (t : Table) (number mm mb : ℕ) (opening : List ℕ) (lawful : Lawful t (length opening)) (same : length opening ≡ t.length) where
@@ -30,8 +30,8 @@ module _ (t : Table) (number mm mb : ℕ) (opening : List ℕ) (lawful : Lawful 
   abbrev here : List Event → State
   here h = told t number mm mb opening h
 
-  carried : (h : List Event) → FineIn h → (d : Deed) → refusal_of (here h) d ≡ None
-      → NextIn (carried_out (here h) d) (record { call = d; answer = reply None (number_for (carried_out (here h) d) d) } ∷ h)
+  carried : (h : List Event) → FineIn h → (d : Deed) → call_refusal (here h) d ≡ None
+      → NextIn (carried_out (here h) d) (record { call = d; answer = refusal_or None (number_for (carried_out (here h) d) d) } ∷ h)
   carried h f (lend p who) e = step_lend t number mm mb opening (lent t h) (out_in t h) (keeps_in h) (cancels_in h) (standing t opening h) (ever_laid t opening h) lawful f p who e
   carried h f (paint p) e = step_paint t number mm mb opening (lent t h) (out_in t h) (keeps_in h) (cancels_in h) (standing t opening h) (ever_laid t opening h) lawful f p e
   carried h f (undo n who) e = step_undo t number mm mb opening (lent t h) (out_in t h) (keeps_in h) (cancels_in h) (standing t opening h) (ever_laid t opening h) lawful f n who e
@@ -39,25 +39,25 @@ module _ (t : Table) (number mm mb : ℕ) (opening : List ℕ) (lawful : Lawful 
   carried h f (cancel n) e = step_cancel t number mm mb opening (lent t h) (out_in t h) (keeps_in h) (cancels_in h) (standing t opening h) (ever_laid t opening h) lawful f n e
 
   step : (h : List Event) → FineIn h → (d : Deed) → NextIn (after (here h) d) (record { call = d; answer = answer_to (here h) d } ∷ h)
-  step h f d = go (refusal_of (here h) d) refl
+  step h f d = go (call_refusal (here h) d) refl
     where
-      go : (r : Option Refusal) → refusal_of (here h) d ≡ r
-          → NextIn (left r (here h) (carried_out (here h) d)) (record { call = d; answer = reply r (number_for (carried_out (here h) d) d) } ∷ h)
+      go : (r : Option Refusal) → call_refusal (here h) d ≡ r
+          → NextIn (left r (here h) (carried_out (here h) d)) (record { call = d; answer = refusal_or r (number_for (carried_out (here h) d) d) } ∷ h)
       go None e = carried h f d e
       go (Some x) e = record { state = refl; fine = f }
 
   here_ours : (h : List Event) → FineIn h → are_ours (here h).book (here h).stock ≡ true
   here_ours h f = told_ours t number mm mb opening (lent t h) (out_in t h) (keeps_in h) (cancels_in h) (standing t opening h) f.good
 
-  at_home : (h : List Event) → FineIn h → (d : Deed) → AtHome (record { call = d; answer = answer_to (here h) d })
-  at_home h f d =
-      reply_home (refusal_of (here h) d) _
+  taken_as_own : (h : List Event) → FineIn h → (d : Deed) → TakenAsOwn (record { call = d; answer = answer_to (here h) d })
+  taken_as_own h f d =
+      homely_answer (call_refusal (here h) d) _
       (homely (here h) (told_same t number mm mb opening (lent t h) (out_in t h) (keeps_in h) (cancels_in h) (standing t opening h) same) (here_ours h f) d)
 
   -- what holds after a history
   record Stands (s : State) (h : List Event) : Type 0 where
     answers : Answered t number mm mb opening h
-    home : AllByRecursion AtHome h
+    own : AllByRecursion TakenAsOwn h
     state : s ≡ here h
     fine : FineIn h
 
@@ -68,7 +68,7 @@ module _ (t : Table) (number mm mb : ℕ) (opening : List ℕ) (lawful : Lawful 
       subst (λ (x : State). NextIn (after x d) (record { call = d; answer = answer_to x d } ∷ h)) (sym e) (step h w.fine d) in
       record {
         answers = (ap (λ (x : State). answer_to x d) e, w.answers);
-        home = (subst (λ (x : State). AtHome (record { call = d; answer = answer_to x d })) (sym e) (at_home h w.fine d), w.home);
+        own = (subst (λ (x : State). TakenAsOwn (record { call = d; answer = answer_to x d })) (sym e) (taken_as_own h w.fine d), w.own);
         state = next.state;
         fine = next.fine;
       }
@@ -85,7 +85,7 @@ module _ (t : Table) (number mm mb : ℕ) (opening : List ℕ) (lawful : Lawful 
         state = e;
         same_length = ap (λ (x : State). length x.file) e ∙ told_length opening (standing t opening h);
         answers = w.answers;
-        home = w.home;
+        own = w.own;
         numbers = f.good.numbers;
         pieces = f.good.pieces;
         apart = outs_apart t mm mb opening (lent t h) (out_in t h) (standing t opening h) f.good lawful;
@@ -107,13 +107,15 @@ module _ (t : Table) (number mm mb : ℕ) (opening : List ℕ) (lawful : Lawful 
       let file' = fill_by_all (byte_under opening []) opening (length opening) 0 refl (λ i h. refl) in
       record {
         answers = tt;
-        home = tt;
+        own = tt;
         state = λ i. record { book = fresh_book t (Some number); file = file' i; stock = record { marks = a i; bytes = b i; most_marks = c i; most_bytes = d i } };
         fine = record { good = good_none t mm mb opening; rows = tt; balance = refl };
       }
 
 -- the law over every list of calls on a job just opened
-pub law_run : (y : Layout) (number : ℕ) (file : List ℕ) (k : Stock) (ds : List Deed) → length file ≡ y.table.length → LawfulRun y.table number file k ds
+pub law_run : (y : Layout) (number : ℕ) (file : List ℕ) (k : Stock) (ds : List Deed) → length file ≡ y.table.length → k.marks ≡ [] → k.bytes ≡ []
+    → Law y.table number k.most_marks k.most_bytes file (history_of ds (answers_to (opened_state y.table number file k) ds))
+    (after_all (opened_state y.table number file k) ds)
 law_run y number file k ds e a b =
     let l : Lawful y.table (length file) = subst (Lawful y.table) (sym e) (lawful y) in
     stands_law y.table number k.most_marks k.most_bytes file l e _ _

@@ -22,7 +22,6 @@ use Rattle.loans.specs.Scrapping.{AtHome}
 use Rattle.loans.proofs.Allowed.{ours}
 use Rattle.loans.proofs.Counting.{out_count}
 use Rattle.loans.proofs.Slots.{stands_first}
-use Rattle.loans.proofs.Owning.{outs_distinct}
 use Rattle.loans.proofs.Ended.{less_here}
 use Rattle.loans.proofs.Undone.{marks_in_file}
 use Rattle.loans.proofs.Outs.{out_less, out_counted, loan_counted, all_counted_lem}
@@ -125,7 +124,7 @@ module _ (s₀ : State) (s : Job) (f : List ℕ) (v : Shelves) (c : Cancelling s
   stands = stands_first ls n 0 inside (λ j h. absurd (omega arith)) (sym first)
 
   left_is : less_all (is_number n) ls ≡ drop 1 ls
-  left_is = less_here ls n 0 (outs_distinct s.ledger s.balanced s.rising) stands
+  left_is = less_here ls n 0 s.rising stands
 
   all_is : ls ≡ get_or ls 0 no_loan ∷ drop 1 ls
   all_is = drop_more ls 0 no_loan inside

@@ -14,10 +14,10 @@ use Rattle.loans.specs.Lists.{less_all}
 use Rattle.loans.specs.Stocks.{Stock, stock_of, of_loan, lengths}
 use Rattle.loans.specs.Taking.{no_mark}
 use Rattle.loans.specs.Ending.{bytes_of, stock_without}
-use Rattle.loans.specs.Sifting.{Fits, stock_slid}
+use Rattle.loans.specs.Sifting.{CanSlide, stock_slid}
 use Rattle.loans.proofs.Newest.{lengths_append}
 
-pub slid : (v w : Shelves) (position begin n : ℕ) (to : Ends) (r r' : Result Unit Refusal) → Fits (stock_of v) position begin n to
+pub slid : (v w : Shelves) (position begin n : ℕ) (to : Ends) (r r' : Result Unit Refusal) → CanSlide (stock_of v) position begin n to
     → Slide v.marks position 1 to.marks r w.marks → Slide v.bytes begin n to.bytes r' w.bytes
     → stock_of w ≡ stock_slid (stock_of v) position begin n to
 slid v w position begin n to r r' fits marks bytes =
@@ -88,7 +88,7 @@ module _ {old st : Stock} {n i begin : ℕ} {ends : Ends} (s : Sifted old st n i
       lengths_split : (ms : List Mark) (j : ℕ) → lengths ms ≡ lengths (take j ms) + lengths (drop j ms)
       lengths_split ms j = ap lengths (sym (take-append-drop j ms)) ∙ lengths_append (take j ms) (drop j ms)
 
-  pub fits : Fits st i begin m.length ends
+  pub fits : CanSlide st i begin m.length ends
   fits = record { mark = omega (arith, s.marks_count); bytes = stands; marks_down = s.marks_low; bytes_down = s.bytes_low }
 
   back_more : (xs ys : List Mark) → drop i xs ≡ drop i ys → drop (i + 1) xs ≡ drop (i + 1) ys

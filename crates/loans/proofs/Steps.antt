@@ -13,13 +13,13 @@ use Rattle.loans.specs.declared.ledger.Loan.{Loan}
 use Rattle.loans.specs.declared.mark.Mark.{Mark}
 use Rattle.loans.specs.Lists.{less_first, less_all}
 use Rattle.loans.specs.Jobs.{Book}
-use Rattle.loans.specs.Lending.{piece_is_out, loan_refusal}
+use Rattle.loans.specs.Lending.{granting, piece_is_out, loan_refusal}
 use Rattle.loans.specs.Stocks.{Stock, is_number, is_out, the_loan, marks_of, are_ours}
 use Rattle.loans.specs.Strokes.{State, Painting, counted_loan, recounted, is_other_length, is_outside_row, lacks_space, stroke_place, stock_with, paint_refusal, undo_refusal}
 use Rattle.loans.specs.Ending.{stock_without, book_without, keep_refusal, cancel_refusal}
 use Rattle.loans.specs.Rules.{carried_out}
 use Rattle.loans.specs.Rules.Deed.{lend, paint, undo, keep, cancel}
-use Rattle.loans.specs.History.{Stroke, granting, stroke_of, laying, bytes_under, undoable, mark_of, shelved}
+use Rattle.loans.specs.History.{Stroke, stroke_of, laying, bytes_under, undoable, mark_of, shelved}
 use Rattle.loans.specs.Law.{InRow}
 use Rattle.loans.proofs.Listed.{Split, split, None as NoneOf}
 use Rattle.loans.proofs.Lawful.{Lawful}
@@ -132,11 +132,11 @@ module _ (t : Table) (number mm mb : ℕ) (opening : List ℕ) (ls os : List Loa
       (λ s r. let a = numbered_known ls s.painting.loan fine.good.numbers r.inside.lent in ne_eqb (length ls + 1) s.painting.loan (λ e. omega arith)) ss fine.good.laid))
 
   pub step_lend : (p : Piece) (who : ℕ) → loan_refusal here.book p ≡ None
-      → (let new : Loan = granting t (length ls + 1) p who in
+      → (let new : Loan = granting (length ls + 1) p who (area_in t p) in
       Next t number mm mb opening (carried_out here (lend p who)) (new ∷ ls) (os ++ new ∷ []) keeps cancels ss old)
   step_lend p who e =
       let h = lend_says p e in
-      let new : Loan = granting t (length ls + 1) p who in
+      let new : Loan = granting (length ls + 1) p who (area_in t p) in
       let file' : List ℕ = bytes_under opening ss 0 (length opening) in
       let k : Stock = here.stock in
       let one : length ls + 1 ≡ suc (length ls) = omega arith in

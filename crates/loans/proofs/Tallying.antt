@@ -5,10 +5,10 @@ use Rattle.std.proofs.lemmas.List.{at_drop_more, at_drop_all}
 use Rattle.std.proofs.lemmas.Bool.{eqb-true, and_parts, cases_order, cond-true, cond-false, eq-eqb, ne_eqb, and_left, and_right}
 use Rattle.loans.specs.declared.ledger.Loan.{Loan}
 use Rattle.loans.specs.declared.mark.Mark.{Mark}
-use Rattle.loans.specs.Books.{no_loan}
+use Rattle.loans.specs.Books.{NumbersRise, no_loan}
 use Rattle.loans.specs.Stocks.{marks_of, lengths, is_sound, all_sound, of_loan, all_counted}
 use Rattle.loans.specs.Finding.{StandsAt}
-use Rattle.loans.specs.Tallies.{Distinct, Tally, agree}
+use Rattle.loans.specs.Tallies.{Tally, agree}
 use Rattle.loans.specs.Taking.{no_mark}
 
 pub marks_few : (n : ℕ) (ms : List Mark) → marks_of n ms ≤ length ms
@@ -76,13 +76,13 @@ module _ {ls : List Loan} {ms : List Mark} {n : ℕ} where
       pub too_long : (m.length ≤ left → ⊥) → (all_sound ls ms && eqb (lengths ms) n) ≡ false
       too_long h = and_right (all_sound ls ms) _ (ne_eqb (lengths ms) n (λ e. h (omega (arith, p.covered, length_step))))
 
-      module _ {k : ℕ} (distinct : Distinct ls) (at : StandsAt ls m.loan k) where
+      module _ {k : ℕ} (rising : NumbersRise ls) (at : StandsAt ls m.loan k) where
         -- the count at a position after one mark of the loan at k
         other : (j : ℕ) → j < length ls → j ≢ k → (get_or ls j no_loan).number ≢ m.loan
         other j h ne e =
             ⊎_elim (λ (same : j ≡ k). ne same)
-            (⊎_elim (λ (less : j < k). omega (arith, distinct j k less at.inside, at.number))
-            (λ (more : k < j). omega (arith, distinct k j more h, at.number)))
+            (⊎_elim (λ (less : j < k). omega (arith, rising j k less at.inside, at.number))
+            (λ (more : k < j). omega (arith, rising k j more h, at.number)))
             (cases_order j k)
 
         count_here : get_or counts k 0 + 1 + marks_of (get_or ls k no_loan).number (drop (i + 1) ms) ≡ marks_of (get_or ls k no_loan).number ms

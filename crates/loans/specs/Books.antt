@@ -3,6 +3,7 @@ use Rattle.std.specs.Prelude.{◌≡◌, ℕ, ◌+◌, ◌*◌, ◌<◌, ◌≤�
 use Rattle.loans.specs.declared.ledger.Ledger.{Ledger}
 use Rattle.loans.specs.declared.ledger.Loan.{Loan}
 
+-- what is read where no loan stands
 abbrev pub no_loan : Loan
 no_loan =
     record {
@@ -12,6 +13,10 @@ no_loan =
       area = record { place = 0; length = 0; row_bytes = 0; rows = 0 };
       strokes = 0;
     }
+
+-- the loan with so many strokes that it can undo
+abbrev pub loan_with : Loan → ℕ → Loan
+loan_with l n = record { number = l.number; borrower = l.borrower; piece = l.piece; area = l.area; strokes = n }
 
 -- the loans out, in the order in which they were granted
 abbrev pub outs : Ledger → List Loan
@@ -30,9 +35,9 @@ Inside n l =
     × ((slice_index_or l.loans k no_loan).area.length ≡ (slice_index_or l.loans k no_loan).area.row_bytes * (slice_index_or l.loans k no_loan).area.rows)
 
 -- no loan out has a number above the last that was given
-abbrev pub Given : Ledger → Type 0
-Given l = (k : ℕ) → k < l.out → (slice_index_or l.loans k no_loan).number ≤ l.granted
+abbrev pub NumbersGiven : Ledger → Type 0
+NumbersGiven l = (k : ℕ) → k < l.out → (slice_index_or l.loans k no_loan).number ≤ l.granted
 
--- the numbers of the loans out rise
-abbrev pub Rising : Ledger → Type 0
-Rising l = (j k : ℕ) → j < k → k < l.out → (slice_index_or l.loans j no_loan).number < (slice_index_or l.loans k no_loan).number
+-- the numbers of the loans rise, so no two of them have one number
+abbrev pub NumbersRise : List Loan → Type 0
+NumbersRise ls = (j k : ℕ) → j < k → k < length ls → (slice_index_or ls j no_loan).number < (slice_index_or ls k no_loan).number

@@ -4,18 +4,18 @@ use Rattle.refusal.specs.declared.Refusal.{Refusal}
 use Rattle.loans.specs.declared.job.Job.{Job}
 use Rattle.loans.specs.declared.mark.Shelves.{Shelves}
 use Rattle.loans.specs.Strokes.{State, state_of}
-use Rattle.loans.specs.Rules.{Deed, refusal_of, carried_out, number_for}
+use Rattle.loans.specs.Rules.{Deed, call_refusal, carried_out, number_for}
 
 -- a call that is carried out: no refusal applies, and answer and state are the rule's
 pub record Carried (d : Deed) (before : State) (n : ℕ) (after : State) : Type 0 where
-  pub none : refusal_of before d ≡ None
+  pub none : call_refusal before d ≡ None
   pub answer : n ≡ number_for (carried_out before d) d
   pub state : after ≡ carried_out before d
 
 -- a call on a job, its file and its shelves; a refusal changes nothing
 abbrev pub Called : Deed → Job → List ℕ → Shelves → Result ℕ Refusal → Job → List ℕ → Shelves → Type 0
 Called d j f v (Ok n) j' f' v' = Carried d (state_of j f v) n (state_of j' f' v')
-Called d j f v (Err e) j' f' v' = (refusal_of (state_of j f v) d ≡ Some e) × (j' ≡ j) × (f' ≡ f) × (v' ≡ v)
+Called d j f v (Err e) j' f' v' = (call_refusal (state_of j f v) d ≡ Some e) × (j' ≡ j) × (f' ≡ f) × (v' ≡ v)
 
 -- a call that asks nothing of the file, and leaves any file alone
 abbrev pub CalledOnAny : Deed → Job → Shelves → Result ℕ Refusal → Job → Shelves → Type 0

@@ -48,9 +48,11 @@ keep_refusal b k n =
     cond (not (is_out b.outs n)) (Some LoanNotOut)
     (cond (not (are_ours b k)) (Some ForeignShelves) None)
 
+-- the loan is out no more, one more was kept, and the job counts what stays on the shelves
 abbrev pub kept_book : Book → Stock → ℕ → Book
 kept_book b k n = recounted (book_without b n 1 0) (stock_without k n)
 
+-- the first refusal that applies; a cancel does not ask who the borrower is
 abbrev pub cancel_refusal : State → ℕ → Option Refusal
 cancel_refusal s n =
     cond (is_other_length s) (Some OtherLength)

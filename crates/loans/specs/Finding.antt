@@ -11,6 +11,7 @@ pub record StandsAt (ls : List Loan) (n k : ℕ) : Type 0 where
   pub number : (get_or ls k no_loan).number ≡ n
   pub found : the_loan ls n ≡ slice_index_or ls k no_loan
 
+-- what looking for a number among the loans finds: where its loan stands, or that none has it
 abbrev pub Found : List Loan → ℕ → Option ℕ → Type 0
 Found ls n (Some k) = StandsAt ls n k
 Found ls n None = is_out ls n ≡ false

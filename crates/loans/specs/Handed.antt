@@ -5,7 +5,7 @@ use Rattle.refusal.specs.declared.Refusal.TheVariants.{LoanNotOut}
 use Rattle.loans.specs.Jobs.{Book}
 use Rattle.loans.specs.Stocks.{Stock}
 use Rattle.loans.specs.Strokes.{State}
-use Rattle.loans.specs.Rules.{Deed, refusal_of, after}
+use Rattle.loans.specs.Rules.{Deed, call_refusal, after}
 use Rattle.loans.specs.Rules.Deed.{lend, paint, undo, keep, cancel}
 
 -- a call with whatever file and shelves it is given
@@ -14,6 +14,7 @@ pub record Step : Type 0 where
   pub stock : Stock
   pub deed : Deed
 
+-- a job with the file and the shelves that a call on it is given
 abbrev pub state_with : Book → List ℕ → Stock → State
 state_with b f k = record { book = b; file = f; stock = k }
 
@@ -23,23 +24,23 @@ later_book b [] = b
 later_book b (x ∷ xs) = later_book (after (state_with b x.file x.stock) x.deed).book xs
 
 -- the call is on the loan of that number
-abbrev pub names : ℕ → Deed → Bool
-names n (lend p who) = false
-names n (paint p) = n == p.loan
-names n (undo m who) = n == m
-names n (keep m) = n == m
-names n (cancel m) = n == m
+abbrev pub is_on : ℕ → Deed → Bool
+is_on n (lend p who) = false
+is_on n (paint p) = n == p.loan
+is_on n (undo m who) = n == m
+is_on n (keep m) = n == m
+is_on n (cancel m) = n == m
 
 -- a call is refused and changes nothing; where the file has the job's length, the reason is that the loan is not out
-pub record TurnedDown (s : State) (d : Deed) : Type 0 where
+pub record RefusedAsNotOut (s : State) (d : Deed) : Type 0 where
   pub reason : Refusal
-  pub refused : refusal_of s d ≡ Some reason
+  pub refused : call_refusal s d ≡ Some reason
   pub unchanged : after s d ≡ s
   pub not_out : length s.file ≡ s.book.table.length → reason ≡ LoanNotOut
 
 -- after whatever calls, with whatever file and shelves, every call on the loan of that number is turned down
 abbrev pub HandedIn : ℕ → Book → Type 0
-HandedIn n b = (xs : List Step) (f : List ℕ) (k : Stock) (d : Deed) → names n d ≡ true → TurnedDown (state_with (later_book b xs) f k) d
+HandedIn n b = (xs : List Step) (f : List ℕ) (k : Stock) (d : Deed) → is_on n d ≡ true → RefusedAsNotOut (state_with (later_book b xs) f k) d
 
 -- the same of a keep or cancel that was carried out
 abbrev pub HandedWhere : ℕ → Result ℕ Refusal → Book → Type 0

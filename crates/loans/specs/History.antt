@@ -9,6 +9,7 @@ use Rattle.loans.specs.declared.ledger.Loan.{Loan}
 use Rattle.loans.specs.declared.mark.Mark.{Mark}
 use Rattle.loans.specs.Lists.{less_first, less_all}
 use Rattle.loans.specs.Jobs.{Book}
+use Rattle.loans.specs.Lending.{granting}
 use Rattle.loans.specs.Stocks.{Stock, is_number, is_out, the_loan}
 use Rattle.loans.specs.Strokes.{State, Painting, stroke_place, recounted}
 use Rattle.loans.specs.Rules.{Deed}
@@ -29,13 +30,10 @@ written_down h (d ∷ ds) (r ∷ rs) = written_down (record { call = d; answer =
 abbrev pub history_of : List Deed → List (Result ℕ Refusal) → List Event
 history_of ds rs = written_down [] ds rs
 
--- a loan as it is granted
-abbrev pub granting : Table → ℕ → Piece → ℕ → Loan
-granting t n p who = record { number = n; borrower = who; piece = p; area = area_in t p; strokes = 0 }
-
+-- a loan that is granted comes first, and none ever leaves
 abbrev pub lent_after : Table → List Loan → Deed → Result ℕ Refusal → List Loan
 lent_after t ls d (Err e) = ls
-lent_after t ls (lend p who) (Ok n) = granting t n p who ∷ ls
+lent_after t ls (lend p who) (Ok n) = granting n p who (area_in t p) ∷ ls
 lent_after t ls (paint p) (Ok k) = ls
 lent_after t ls (undo n who) (Ok k) = ls
 lent_after t ls (keep n) (Ok k) = ls
@@ -46,21 +44,21 @@ abbrev pub lent : Table → List Event → List Loan
 lent t [] = []
 lent t (e ∷ h) = lent_after t (lent t h) e.call e.answer
 
+-- a loan is out from the call that answered its number until a keep or a cancel of it is carried out
 abbrev pub out_after : Table → List Loan → Deed → Result ℕ Refusal → List Loan
 out_after t ls d (Err e) = ls
-out_after t ls (lend p who) (Ok n) = ls ++ granting t n p who ∷ []
+out_after t ls (lend p who) (Ok n) = ls ++ granting n p who (area_in t p) ∷ []
 out_after t ls (paint p) (Ok k) = ls
 out_after t ls (undo n who) (Ok k) = ls
 out_after t ls (keep n) (Ok k) = less_all (is_number n) ls
 out_after t ls (cancel n) (Ok k) = less_all (is_number n) ls
 
--- the loans that are out: from the call that answered their number until a keep or a cancel of them is carried out; in the order
--- in which they were granted
+-- the loans that are out, in the order in which they were granted
 abbrev pub out_in : Table → List Event → List Loan
 out_in t [] = []
 out_in t (e ∷ h) = out_after t (out_in t h) e.call e.answer
 
--- how many keeps, and how many cancels, were carried out
+-- a keep that is carried out is one more
 abbrev pub keeps_after : ℕ → Deed → Result ℕ Refusal → ℕ
 keeps_after k d (Err e) = k
 keeps_after k (lend p who) (Ok n) = k
@@ -69,10 +67,12 @@ keeps_after k (undo m who) (Ok n) = k
 keeps_after k (keep m) (Ok n) = k + 1
 keeps_after k (cancel m) (Ok n) = k
 
+-- how many keeps were carried out
 abbrev pub keeps_in : List Event → ℕ
 keeps_in [] = 0
 keeps_in (e ∷ h) = keeps_after (keeps_in h) e.call e.answer
 
+-- a cancel that is carried out is one more
 abbrev pub cancels_after : ℕ → Deed → Result ℕ Refusal → ℕ
 cancels_after k d (Err e) = k
 cancels_after k (lend p who) (Ok n) = k
@@ -81,6 +81,7 @@ cancels_after k (undo m who) (Ok n) = k
 cancels_after k (keep m) (Ok n) = k
 cancels_after k (cancel m) (Ok n) = k + 1
 
+-- how many cancels were carried out
 abbrev pub cancels_in : List Event → ℕ
 cancels_in [] = 0
 cancels_in (e ∷ h) = cancels_after (cancels_in h) e.call e.answer
@@ -96,12 +97,17 @@ pub record Stroke : Type 0 where
 abbrev pub stroke_of : ℕ → Stroke → Bool
 stroke_of n s = n == s.painting.loan
 
+-- how many bytes it laid
 abbrev pub stroke_length : Stroke → ℕ
 stroke_length s = length s.painting.laid
 
+-- so many bytes from a place on reach over the byte at another
+abbrev pub reach_over : ℕ → ℕ → ℕ → Bool
+reach_over at n i = nat_le at i && nat_lt i (at + n)
+
 -- the stroke lies over the byte at a place
 abbrev pub covers : Stroke → ℕ → Bool
-covers s i = nat_le s.place i && nat_lt i (s.place + stroke_length s)
+covers s i = reach_over s.place (stroke_length s) i
 
 -- the byte at a place under strokes, the newest first: that of the first that lies over it, else the opening's
 abbrev pub byte_under : List ℕ → List Stroke → ℕ → ℕ
@@ -118,6 +124,7 @@ laying opening ls ss p =
     let at : ℕ = stroke_place (the_loan ls p.loan).area p in
     record { painting = p; piece = (the_loan ls p.loan).piece; place = at; below = bytes_under opening ss at (length p.laid) }
 
+-- a paint lays a stroke, an undo takes back the newest of its loan, a cancel all of them; those of a kept loan stand for good
 abbrev pub standing_after : List ℕ → List Loan → List Stroke → Deed → Result ℕ Refusal → List Stroke
 standing_after opening ls ss d (Err e) = ss
 standing_after opening ls ss (lend p who) (Ok n) = ss
@@ -126,11 +133,12 @@ standing_after opening ls ss (undo n who) (Ok k) = less_first (stroke_of n) ss
 standing_after opening ls ss (keep n) (Ok k) = ss
 standing_after opening ls ss (cancel n) (Ok k) = less_all (stroke_of n) ss
 
--- the strokes that stand, the newest first: an undo takes back the newest of its loan, a cancel all of them
+-- the strokes that stand, the newest first
 abbrev pub standing : Table → List ℕ → List Event → List Stroke
 standing t opening [] = []
 standing t opening (e ∷ h) = standing_after opening (out_in t h) (standing t opening h) e.call e.answer
 
+-- a stroke that is laid comes first, and none ever leaves
 abbrev pub laid_after : List ℕ → List Loan → List Stroke → List Stroke → Deed → Result ℕ Refusal → List Stroke
 laid_after opening ls ss old d (Err e) = old
 laid_after opening ls ss old (lend p who) (Ok n) = old
@@ -149,6 +157,7 @@ ever_laid t opening (e ∷ h) =
 abbrev pub undoable : List Loan → List Stroke → List Stroke
 undoable ls ss = reverse (filter (λ s. is_out ls s.painting.loan) ss)
 
+-- the mark that stands on the shelf for a stroke
 abbrev pub mark_of : Stroke → Mark
 mark_of s = record { loan = s.painting.loan; place = s.place; length = stroke_length s }
 
@@ -157,9 +166,7 @@ abbrev pub shelved : ℕ → ℕ → List Stroke → Stock
 shelved most_marks' most_bytes' ss =
     record { marks = map mark_of ss; bytes = flat_map (λ (s : Stroke). s.below) ss; most_marks = most_marks'; most_bytes = most_bytes' }
 
--- the job, file and shelves that a history tells of a job opened with a table, a number and a file, on shelves of these capacities:
--- each byte of the file is that of the newest stroke standing over it, else the opening's; the shelves hold the strokes that stand
--- and whose loan is out; the job's counts are the history's
+-- the job that a history tells: the loans out, how many were granted, kept and cancelled, and the counts of these shelves
 abbrev pub told_book : Table → ℕ → List Event → Stock → Book
 told_book t number' h k =
     recounted (record {
@@ -173,9 +180,12 @@ told_book t number' h k =
       bytes = 0;
     }) k
 
+-- the shelves that it tells: they hold the strokes that stand and whose loan is out
 abbrev pub told_stock : Table → ℕ → ℕ → List ℕ → List Event → Stock
 told_stock t most_marks' most_bytes' opening h = shelved most_marks' most_bytes' (undoable (out_in t h) (standing t opening h))
 
+-- the job, file and shelves that a history tells of a job opened with a table, a number and a file, on shelves of these capacities;
+-- each byte of the file is that of the newest stroke standing over it, else the opening's
 abbrev pub told : Table → ℕ → ℕ → ℕ → List ℕ → List Event → State
 told t number' most_marks' most_bytes' opening h =
     record {

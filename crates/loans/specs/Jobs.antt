@@ -19,6 +19,7 @@ pub record Book : Type 0 where
   pub marks : ℕ
   pub bytes : ℕ
 
+-- of a ledger's memory only the loans that are out count
 abbrev pub book_of : Job → Book
 book_of j =
     record {
@@ -40,5 +41,6 @@ fresh_book t n = record { table = t; number = n; outs = []; granted = 0; kept = 
 abbrev pub empty_book : Book
 empty_book = fresh_book empty_table None
 
+-- how many loans were granted, kept and cancelled, and how many are out
 abbrev pub report_of : Book → Report
 report_of b = record { granted = b.granted; kept = b.kept; cancelled = b.cancelled; out = length b.outs }

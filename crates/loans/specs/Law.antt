@@ -1,11 +1,10 @@
 -- The law of loans and strokes: what holds after every list of calls on a newly opened job with two empty shelves.
 use Rattle.std.specs.Prelude.{◌≡◌, ℕ, ◌+◌, ◌<◌, ◌≤◌, true, List, [], ◌∷◌, length, Err, ◌≢◌}
-use Rattle.std.specs.List.{AllByRecursion}
+use Rattle.std.specs.List.{AllByRecursion, Contains}
 use Rattle.refusal.specs.declared.Refusal.TheVariants.{OtherLength, ForeignShelves}
 use Rattle.dds.specs.declared.table.Table.{Table}
 use Rattle.dds.specs.Places.{exists_in, area_in}
 use Rattle.loans.specs.declared.ledger.Loan.{Loan}
-use Rattle.loans.specs.Lists.{Among}
 use Rattle.loans.specs.Stocks.{is_out, the_loan}
 use Rattle.loans.specs.Strokes.{State, stroke_place}
 use Rattle.loans.specs.Rules.{answer_to}
@@ -18,13 +17,13 @@ Answered t number most_marks most_bytes opening (e ∷ h) =
     (e.answer ≡ answer_to (told t number most_marks most_bytes opening h) e.call) × Answered t number most_marks most_bytes opening h
 
 -- the job's own file and shelves are never taken for others
-abbrev pub AtHome : Event → Type 0
-AtHome e = (e.answer ≢ Err OtherLength) × (e.answer ≢ Err ForeignShelves)
+abbrev pub TakenAsOwn : Event → Type 0
+TakenAsOwn e = (e.answer ≢ Err OtherLength) × (e.answer ≢ Err ForeignShelves)
 
 -- the numbers given are 1, 2, 3 and so on; the list has the newest first
-abbrev pub Numbered : List Loan → Type 0
-Numbered [] = Unit {0}
-Numbered (l ∷ ls) = (l.number ≡ length ls + 1) × Numbered ls
+abbrev pub NumberedFromOne : List Loan → Type 0
+NumberedFromOne [] = Unit {0}
+NumberedFromOne (l ∷ ls) = (l.number ≡ length ls + 1) × NumberedFromOne ls
 
 -- a loan's piece exists, and the loan spans it
 abbrev pub OfPiece : Table → Loan → Type 0
@@ -36,7 +35,7 @@ Spans l place = (l.area.place ≤ place) × (place < l.area.place + l.area.lengt
 
 -- no byte lies in the spans of two of the loans
 abbrev pub Apart : List Loan → Type 0
-Apart ls = (place : ℕ) (a b : Loan) → Among ls a → Among ls b → Spans a place → Spans b place → a ≡ b
+Apart ls = (place : ℕ) (a b : Loan) → Contains ls a → Contains ls b → Spans a place → Spans b place → a ≡ b
 
 -- a stroke has its loan's piece and borrower, a row below the piece's rows, ends at the row's end at the latest, and lies at the piece's
 -- place, row × row bytes, and first together
@@ -55,8 +54,8 @@ pub record Law (t : Table) (number most_marks most_bytes : ℕ) (opening : List 
   pub state : s ≡ told t number most_marks most_bytes opening h
   pub same_length : length s.file ≡ length opening
   pub answers : Answered t number most_marks most_bytes opening h
-  pub home : AllByRecursion AtHome h
-  pub numbers : Numbered (lent t h)
+  pub own : AllByRecursion TakenAsOwn h
+  pub numbers : NumberedFromOne (lent t h)
   pub pieces : AllByRecursion (OfPiece t) (lent t h)
   pub apart : Apart (out_in t h)
   pub rows : AllByRecursion (InRow (lent t h)) (ever_laid t opening h)

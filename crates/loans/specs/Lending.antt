@@ -1,5 +1,6 @@
 -- What lending a piece answers and leaves.
 use Rattle.std.specs.Prelude.{◌≡◌, ℕ, ◌+◌, Bool, false, cond, not, ◌&&◌, ◌||◌, List, [], ◌∷◌, ◌++◌, length, Some, None, Ok, Err, Option, Result, ◌==◌, nat_le, slice_set}
+use Rattle.std.specs.List.{list_any}
 use Rattle.refusal.specs.declared.Refusal.{Refusal}
 use Rattle.refusal.specs.declared.Refusal.TheVariants.{NoSuchPiece, PieceOut, TooManyLoans, NumbersUsedUp}
 use Rattle.dds.specs.declared.area.Area.{Area}
@@ -10,13 +11,13 @@ use Rattle.loans.specs.declared.ledger.Ledger.{Ledger}
 use Rattle.loans.specs.declared.ledger.Loan.{Loan}
 use Rattle.loans.specs.Jobs.{Book, book_of}
 
+-- two pieces are the same where element, level and slice are
 abbrev pub same_piece : Piece → Piece → Bool
 same_piece p q = p.element == q.element && (p.level == q.level && p.slice == q.slice)
 
 -- some loan of the list has the piece
 abbrev pub piece_is_out : List Loan → Piece → Bool
-piece_is_out [] p = false
-piece_is_out (l ∷ ls) p = same_piece l.piece p || piece_is_out ls p
+piece_is_out ls p = list_any (λ (l : Loan). same_piece l.piece p) ls
 
 -- the first refusal that applies: no such piece, the piece is out, 32 loans are out, 65,535 numbers were given
 abbrev pub loan_refusal : Book → Piece → Option Refusal
@@ -26,13 +27,17 @@ loan_refusal b p =
     (cond (nat_le 32 (length b.outs)) (Some TooManyLoans)
     (cond (nat_le 65535 b.granted) (Some NumbersUsedUp) None)))
 
+-- a loan as it is granted: nothing of it was painted
+abbrev pub granting : ℕ → Piece → ℕ → Area → Loan
+granting n p who a = record { number = n; borrower = who; piece = p; area = a; strokes = 0 }
+
 -- one loan more, with the next number
 abbrev pub with_loan : Book → Piece → ℕ → Book
-with_loan b p borrower' =
+with_loan b p who =
     record {
       table = b.table;
       number = b.number;
-      outs = b.outs ++ record { number = b.granted + 1; borrower = borrower'; piece = p; area = area_in b.table p; strokes = 0 } ∷ [];
+      outs = b.outs ++ granting (b.granted + 1) p who (area_in b.table p) ∷ [];
       granted = b.granted + 1;
       kept = b.kept;
       cancelled = b.cancelled;
@@ -42,10 +47,10 @@ with_loan b p borrower' =
 
 -- the same in the ledger's own memory
 abbrev pub ledger_with : Ledger → Piece → ℕ → Area → Ledger
-ledger_with l p borrower' a =
+ledger_with l p who a =
     record {
       number = l.number;
-      loans = slice_set l.loans l.out (record { number = l.granted + 1; borrower = borrower'; piece = p; area = a; strokes = 0 });
+      loans = slice_set l.loans l.out (granting (l.granted + 1) p who a);
       out = l.out + 1;
       granted = l.granted + 1;
       kept = l.kept;
@@ -54,7 +59,8 @@ ledger_with l p borrower' a =
       bytes = l.bytes;
     }
 
-abbrev pub Lent : Piece → ℕ → Job → Result ℕ Refusal → Job → Type 0
-Lent p borrower s (Ok n) t =
-    (loan_refusal (book_of s) p ≡ None) × (n ≡ (book_of s).granted + 1) × (book_of t ≡ with_loan (book_of s) p borrower)
-Lent p borrower s (Err e) t = (loan_refusal (book_of s) p ≡ Some e) × (t ≡ s)
+-- the piece is lent under the next number; a refusal changes nothing
+abbrev pub Lends : Piece → ℕ → Job → Result ℕ Refusal → Job → Type 0
+Lends p who s (Ok n) t =
+    (loan_refusal (book_of s) p ≡ None) × (n ≡ (book_of s).granted + 1) × (book_of t ≡ with_loan (book_of s) p who)
+Lends p who s (Err e) t = (loan_refusal (book_of s) p ≡ Some e) × (t ≡ s)

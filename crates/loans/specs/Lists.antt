@@ -2,11 +2,6 @@
 use Rattle.std.specs.Prelude.{◌≡◌, Bool, true, false, cond, not, ◌⊎◌, List, [], ◌∷◌, filter}
 
 module _ {A : Type 0} where
-  -- a is one of a list
-  abbrev pub Among : List A → A → Type 0
-  Among [] a = ⊥
-  Among (x ∷ xs) a = (a ≡ x) ⊎ Among xs a
-
   -- the first of a list that passes a test, or what stands in for it
   abbrev pub first_or : A → (A → Bool) → List A → A
   first_or d p [] = d

@@ -17,6 +17,7 @@ pub data Deed : Type 0 where
   keep : ℕ → Deed
   cancel : ℕ → Deed
 
+-- what a call of the code asks for
 abbrev pub deed_of : Call → Deed
 deed_of (Loan p who) = lend p who
 deed_of (Paint p) = paint (painting_of p)
@@ -25,12 +26,12 @@ deed_of (Keep n) = keep n
 deed_of (Cancel n) = cancel n
 
 -- the first refusal that applies
-abbrev pub refusal_of : State → Deed → Option Refusal
-refusal_of s (lend p who) = loan_refusal s.book p
-refusal_of s (paint p) = paint_refusal s p
-refusal_of s (undo n who) = undo_refusal s n who
-refusal_of s (keep n) = keep_refusal s.book s.stock n
-refusal_of s (cancel n) = cancel_refusal s n
+abbrev pub call_refusal : State → Deed → Option Refusal
+call_refusal s (lend p who) = loan_refusal s.book p
+call_refusal s (paint p) = paint_refusal s p
+call_refusal s (undo n who) = undo_refusal s n who
+call_refusal s (keep n) = keep_refusal s.book s.stock n
+call_refusal s (cancel n) = cancel_refusal s n
 
 -- what a call that is carried out leaves
 abbrev pub carried_out : State → Deed → State
@@ -48,26 +49,30 @@ number_for after (undo n who) = marks_of n after.stock.marks
 number_for after (keep n) = length after.book.outs
 number_for after (cancel n) = length after.book.outs
 
-abbrev pub reply : Option Refusal → ℕ → Result ℕ Refusal
-reply None n = Ok n
-reply (Some e) n = Err e
+-- the refusal that applies, or the number where none does
+abbrev pub refusal_or : Option Refusal → ℕ → Result ℕ Refusal
+refusal_or None n = Ok n
+refusal_or (Some e) n = Err e
 
+-- what stood before where a refusal applies, else what the call leaves
 abbrev pub left : Option Refusal → State → State → State
 left None before after = after
 left (Some e) before after = before
 
--- what a call answers, and what stands after it: where it is refused, what stood before
+-- what a call answers: the first refusal that applies, else its number
 abbrev pub answer_to : State → Deed → Result ℕ Refusal
-answer_to s d = reply (refusal_of s d) (number_for (carried_out s d) d)
+answer_to s d = refusal_or (call_refusal s d) (number_for (carried_out s d) d)
 
+-- what stands after a call: a refused one changes nothing
 abbrev pub after : State → Deed → State
-after s d = left (refusal_of s d) s (carried_out s d)
+after s d = left (call_refusal s d) s (carried_out s d)
 
--- the same of a list of calls, one after the other
+-- what calls answer that are made one after the other
 abbrev pub answers_to : State → List Deed → List (Result ℕ Refusal)
 answers_to s [] = []
 answers_to s (d ∷ ds) = answer_to s d ∷ answers_to (after s d) ds
 
+-- what stands after them
 abbrev pub after_all : State → List Deed → State
 after_all s [] = s
 after_all s (d ∷ ds) = after_all (after s d) ds

@@ -21,13 +21,6 @@ use Rattle.loans.specs.Law.{Law}
 abbrev pub opened_state : Table → ℕ → List ℕ → Stock → State
 opened_state t number file k = record { book = fresh_book t (Some number); file = file; stock = k }
 
--- the law over a list of calls from the opening on
-abbrev pub LawfulRun : Table → ℕ → List ℕ → Stock → List Deed → Type 0
-LawfulRun t number file k ds =
-    k.marks ≡ [] → k.bytes ≡ []
-    → Law t number k.most_marks k.most_bytes file (history_of ds (answers_to (opened_state t number file k) ds))
-    (after_all (opened_state t number file k) ds)
-
 -- neither shelf holds anything
 abbrev pub is_empty : Stock → Bool
 is_empty k = length k.marks == 0 && length k.bytes == 0
@@ -54,14 +47,14 @@ pub record Ordered : Type 0 where
   pub old : List (Result ℕ Refusal)
 
 -- what opening the file answers
-abbrev pub OpenedAs : Ordered → Result Layout Refusal → Type 0
-OpenedAs o r = Opened (take 148 o.file) (length o.file) o.row_bytes o.rows r
+abbrev pub FileOpened : Ordered → Result Layout Refusal → Type 0
+FileOpened o r = Opened (take 148 o.file) (length o.file) o.row_bytes o.rows r
 
 -- a run that was made: on any shelves each call went by its own rule; on two empty shelves the law holds of the file, the job, the
 -- shelves, the calls and their answers
 pub record RanSo (o : Ordered) (d : Docket) (t : State) (all : List (Result ℕ Refusal)) : Type 0 where
   pub layout : Layout
-  pub opened : OpenedAs o (Ok layout)
+  pub opened : FileOpened o (Ok layout)
   pub docket : d.number ≡ o.number
   pub given : List (Result ℕ Refusal)
   pub answers : all ≡ o.old ++ given
@@ -83,6 +76,6 @@ Untouched o j j' f' v' new = (j' ≡ j) × (f' ≡ o.file) × (v' ≡ o.shelves)
 -- want of memory comes only where the Vec's capacity was too small for what stands in it and the answers
 abbrev pub Ran : Ordered → ℕ → ℕ → Job → Result Docket RunFault → Job → List ℕ → Shelves → List (Result ℕ Refusal) → Type 0
 Ran o len room j (Ok d) j' f' v' new = RanSo o d (state_of j' f' v') new
-Ran o len room j (Err (Refused e)) j' f' v' new = OpenedAs o (Err e) × Untouched o j j' f' v' new
+Ran o len room j (Err (Refused e)) j' f' v' new = FileOpened o (Err e) × Untouched o j j' f' v' new
 Ran o len room j (Err NoMemory) j' f' v' new =
-    ((y : Layout) × OpenedAs o (Ok y)) × (room < len + length o.calls) × Untouched o j j' f' v' new
+    ((y : Layout) × FileOpened o (Ok y)) × (room < len + length o.calls) × Untouched o j j' f' v' new

@@ -5,12 +5,13 @@ use Rattle.loans.specs.declared.ending.Ends.{Ends}
 use Rattle.loans.specs.Stocks.{Stock}
 
 -- the mark and its bytes stand on the shelves, and go down
-pub record Fits (k : Stock) (position begin n : ℕ) (to : Ends) : Type 0 where
+pub record CanSlide (k : Stock) (position begin n : ℕ) (to : Ends) : Type 0 where
   pub mark : position + 1 ≤ length k.marks
   pub bytes : begin + n ≤ length k.bytes
   pub marks_down : to.marks ≤ position
   pub bytes_down : to.bytes ≤ begin
 
+-- the mark and its bytes stand at the ends of what stays
 abbrev pub stock_slid : Stock → ℕ → ℕ → ℕ → Ends → Stock
 stock_slid k position begin n to =
     record {

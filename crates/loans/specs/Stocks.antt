@@ -1,5 +1,6 @@
 -- What stands on a job's shelves, and when the shelves are the job's.
 use Rattle.std.specs.Prelude.{◌≡◌, ℕ, suc, ◌+◌, Bool, true, cond, ◌&&◌, List, [], ◌∷◌, length, ◌==◌, nat_le}
+use Rattle.std.specs.List.{list_all}
 use Rattle.shelf.specs.Model.{contents, capacity_of}
 use Rattle.dds.specs.declared.area.Area.{Area}
 use Rattle.loans.specs.declared.ledger.Loan.{Loan}
@@ -16,6 +17,7 @@ pub record Stock : Type 0 where
   pub most_marks : ℕ
   pub most_bytes : ℕ
 
+-- what two shelves hold, and how much they can hold
 abbrev pub stock_of : Shelves → Stock
 stock_of s =
     record {
@@ -33,6 +35,7 @@ is_number n l = n == l.number
 abbrev pub is_out : List Loan → ℕ → Bool
 is_out ls n = some_of (is_number n) ls
 
+-- the first of the loans that has the number
 abbrev pub the_loan : List Loan → ℕ → Loan
 the_loan ls n = first_or no_loan (is_number n) ls
 
@@ -58,14 +61,13 @@ lies_in a m = nat_le a.place m.place && nat_le (m.place + m.length) (a.place + a
 abbrev pub is_sound : List Loan → Mark → Bool
 is_sound ls m = nat_le 1 m.length && (is_out ls m.loan && lies_in (the_loan ls m.loan).area m)
 
+-- every mark is sound
 abbrev pub all_sound : List Loan → List Mark → Bool
-all_sound ls [] = true
-all_sound ls (m ∷ ms) = is_sound ls m && all_sound ls ms
+all_sound ls ms = list_all (is_sound ls) ms
 
 -- each loan has as many marks as the job wrote down
 abbrev pub all_counted : List Loan → List Mark → Bool
-all_counted [] ms = true
-all_counted (l ∷ ls) ms = l.strokes == marks_of l.number ms && all_counted ls ms
+all_counted ls ms = list_all (λ (l : Loan). l.strokes == marks_of l.number ms) ls
 
 -- the shelves are the job's: both counts and each loan's count of marks are those that the job knows, every mark is sound, and the
 -- marks' lengths add up to the count of kept bytes. The kept values, the order of the marks and the capacities are not looked at

@@ -10,7 +10,7 @@ use Rattle.loans.specs.declared.ledger.Loan.{Loan}
 use Rattle.loans.specs.declared.mark.Mark.{Mark}
 use Rattle.loans.specs.declared.mark.Shelves.{Shelves}
 use Rattle.loans.specs.Lists.{some_of}
-use Rattle.loans.specs.Books.{no_loan}
+use Rattle.loans.specs.Books.{no_loan, loan_with}
 use Rattle.loans.specs.Jobs.{Book, book_of}
 use Rattle.loans.specs.declared.painting.Spot.{Spot}
 use Rattle.loans.specs.Finding.{StandsAt}
@@ -22,6 +22,7 @@ pub record State : Type 0 where
   pub file : List ℕ
   pub stock : Stock
 
+-- what job, file and shelves of the code mean
 abbrev pub state_of : Job → List ℕ → Shelves → State
 state_of j f v = record { book = book_of j; file = f; stock = stock_of v }
 
@@ -45,14 +46,14 @@ pub record HeldAt (s : State) (n who k : ℕ) : Type 0 where
   pub sized : length s.file ≡ s.book.table.length
   pub ours : are_ours s.book s.stock ≡ true
 
+-- the position of the loan, or the first of the four refusals that applies, whatever comes after them
 abbrev pub Held : State → ℕ → ℕ → Result ℕ Refusal → Type 0
 Held s n who (Ok k) = HeldAt s n who k
 Held s n who (Err e) = (rest : Option Refusal) → held_else s n who rest ≡ Some e
 
 -- a loan as the shelves count it
 abbrev pub counted_loan : List Mark → Loan → Loan
-counted_loan ms l =
-    record { number = l.number; borrower = l.borrower; piece = l.piece; area = l.area; strokes = marks_of l.number ms }
+counted_loan ms l = loan_with l (marks_of l.number ms)
 
 -- the job's counts are those of the shelves
 abbrev pub recounted : Book → Stock → Book
@@ -76,6 +77,7 @@ pub record Painting : Type 0 where
   pub first : ℕ
   pub laid : List ℕ
 
+-- what a paint of the code names
 abbrev pub painting_of : Call.Painting → Painting
 painting_of p =
     record { loan = p.loan; borrower = p.borrower; row = p.row; first = p.first; laid = p.bytes.now }
@@ -107,6 +109,7 @@ pub record PaintAt (s : State) (p : Painting) (k at : ℕ) : Type 0 where
   pub inside : at + length p.laid ≤ length s.file
   pub few : (slice_index_or s.book.outs k no_loan).strokes ≤ 1073741824
 
+-- where the stroke is to lie, or the first refusal that applies
 abbrev pub PaintTested : State → Painting → Result Spot Refusal → Type 0
 PaintTested s p (Ok spot) = PaintAt s p spot.position spot.place
 PaintTested s p (Err e) = paint_refusal s p ≡ Some e
@@ -116,6 +119,7 @@ abbrev pub stock_with : Stock → Mark → List ℕ → Stock
 stock_with k m covered =
     record { marks = k.marks ++ m ∷ []; bytes = k.bytes ++ covered; most_marks = k.most_marks; most_bytes = k.most_bytes }
 
+-- the shelves with the stroke's mark and the bytes that it covers
 abbrev pub painted_stock : State → Painting → Stock
 painted_stock s p =
     let at : ℕ = stroke_place (the_loan s.book.outs p.loan).area p in
@@ -134,11 +138,12 @@ painted s p =
 abbrev pub is_newest : ℕ → Mark → List Mark → Bool
 is_newest n m behind = of_loan n m && not (some_of (of_loan n) behind)
 
--- the marks without the newest of a loan, and the kept bytes without its own
+-- the marks without the newest of a loan
 abbrev pub marks_less : ℕ → List Mark → List Mark
 marks_less n [] = []
 marks_less n (m ∷ ms) = cond (is_newest n m ms) ms (m ∷ marks_less n ms)
 
+-- the kept bytes without those of that mark
 abbrev pub bytes_less : ℕ → List Mark → List ℕ → List ℕ
 bytes_less n [] ks = ks
 bytes_less n (m ∷ ms) ks =
@@ -154,6 +159,7 @@ file_back n file (m ∷ ms) ks =
 abbrev pub undo_refusal : State → ℕ → ℕ → Option Refusal
 undo_refusal s n who = held_else s n who (cond (marks_of n s.stock.marks == 0) (Some NothingToUndo) None)
 
+-- the loan's newest mark and its kept bytes leave the shelves
 abbrev pub undone_stock : Stock → ℕ → Stock
 undone_stock k n =
     record {

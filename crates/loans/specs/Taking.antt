@@ -12,6 +12,7 @@ use Rattle.loans.specs.Stocks.{Stock, of_loan, marks_of, lengths}
 use Rattle.loans.specs.Finding.{StandsAt}
 use Rattle.loans.specs.Strokes.{State, undo_refusal}
 
+-- what is read where no mark stands
 abbrev pub no_mark : Mark
 no_mark = record { loan = 0; place = 0; length = 0 }
 
@@ -22,6 +23,7 @@ pub record NewestAt (ms : List Mark) (n k begin' : ℕ) : Type 0 where
   pub last : some_of (of_loan n) (drop (k + 1) ms) ≡ false
   pub begin : begin' ≡ lengths (take k ms)
 
+-- what looking for a loan's newest mark finds: where it stands, or that the loan has none
 abbrev pub FoundNewest : List Mark → ℕ → Option Newest → Type 0
 FoundNewest ms n (Some x) = NewestAt ms n x.position x.begin
 FoundNewest ms n None = marks_of n ms ≡ 0
@@ -56,6 +58,7 @@ pub record UndoAt (s : State) (n who k position begin : ℕ) : Type 0 where
   pub whole : Whole s.file s.stock position begin
   pub some : 0 < (get_or s.book.outs k no_loan).strokes
 
+-- the stroke to take back, or the first refusal that applies
 abbrev pub UndoTested : State → ℕ → ℕ → Result Last Refusal → Type 0
 UndoTested s n who (Ok x) = UndoAt s n who x.position x.newest.position x.newest.begin
 UndoTested s n who (Err e) = undo_refusal s n who ≡ Some e

@@ -6,10 +6,6 @@ use Rattle.loans.specs.Books.{no_loan}
 use Rattle.loans.specs.Stocks.{marks_of, lengths, is_sound, all_sound}
 use Rattle.loans.specs.Finding.{StandsAt}
 
--- no two of the loans have one number
-abbrev pub Distinct : List Loan → Type 0
-Distinct ls = (j k : ℕ) → j < k → k < length ls → (slice_index_or ls j no_loan).number < (slice_index_or ls k no_loan).number
-
 -- the position of a sound mark's loan
 abbrev pub SoundAt : List Loan → Mark → Option ℕ → Type 0
 SoundAt ls m (Some k) = (is_sound ls m ≡ true) × StandsAt ls m.loan k

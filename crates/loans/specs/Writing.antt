@@ -4,11 +4,7 @@ use Rattle.shelf.specs.Calls.{slid_down}
 use Rattle.loans.specs.declared.ending.Ending.{Ending}
 use Rattle.loans.specs.declared.ending.Ending.TheVariants.{Kept, Cancelled}
 use Rattle.loans.specs.declared.ledger.Ledger.{Ledger}
-use Rattle.loans.specs.declared.ledger.Loan.{Loan}
-use Rattle.loans.specs.Books.{no_loan}
-
-abbrev pub loan_with : Loan → ℕ → Loan
-loan_with l n = record { number = l.number; borrower = l.borrower; piece = l.piece; area = l.area; strokes = n }
+use Rattle.loans.specs.Books.{no_loan, loan_with}
 
 -- the loan at a position has so many strokes, and the shelves so many marks and bytes
 abbrev pub ledger_counted : Ledger → ℕ → ℕ → ℕ → ℕ → Ledger
@@ -24,11 +20,12 @@ ledger_counted l k n marks' bytes' =
       bytes = bytes';
     }
 
--- how many loans more were kept, and how many more cancelled, where one ends
+-- how many loans more were kept, where one ends so
 abbrev pub kept_by : Ending → ℕ
 kept_by Kept = 1
 kept_by Cancelled = 0
 
+-- how many more were cancelled
 abbrev pub cancelled_by : Ending → ℕ
 cancelled_by Kept = 0
 cancelled_by Cancelled = 1

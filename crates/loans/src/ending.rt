@@ -7,7 +7,7 @@ ghost use Rattle.loans.specs.Ending.{stock_without, restored, InFile};
 ghost use Rattle.loans.specs.Rules.Deed.{keep, cancel};
 ghost use Rattle.loans.specs.Calls.{Called, CalledOnAny};
 ghost use Rattle.loans.specs.Handed.{HandedWhere};
-ghost use Rattle.loans.specs.Sifting.{Fits, stock_slid};
+ghost use Rattle.loans.specs.Sifting.{CanSlide, stock_slid};
 
 use crate::job::Job;
 use crate::mark::{Mark, Shelves};
@@ -31,7 +31,7 @@ pub(crate) struct Ends {
 impl Shelves<'_> {
     // Moves the mark at a position and its bytes down to the ends of what stays.
     fn slide_stroke(&mut self, position: usize, begin: usize, length: usize, to: Ends)
-        requires { Fits (stock_of self.old) position begin length to }
+        requires { CanSlide (stock_of self.old) position begin length to }
         ensures { stock_of self.new ≡ stock_slid (stock_of self.old) position begin length to }
     {
         let _ = self.marks.slide(position, 1, to.marks);

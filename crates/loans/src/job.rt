@@ -1,5 +1,5 @@
 // The job: what is remembered of one opened file.
-ghost use Rattle.loans.specs.Books.{Balanced, Inside, Given, Rising};
+ghost use Rattle.loans.specs.Books.{Balanced, Inside, NumbersGiven, NumbersRise, outs};
 
 use crate::ledger::Ledger;
 use dds::Layout;
@@ -12,6 +12,6 @@ pub struct Job {
     pub(crate) ledger: Ledger,
     ghost balanced: { Balanced ledger },
     ghost inside: { Inside layout.table.length ledger },
-    ghost given: { Given ledger },
-    ghost rising: { Rising ledger },
+    ghost given: { NumbersGiven ledger },
+    ghost rising: { NumbersRise (outs ledger) },
 }

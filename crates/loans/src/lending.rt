@@ -1,6 +1,6 @@
 // Lending a piece.
 ghost use Rattle.std.specs.Prelude.{◌≡◌, ◌<◌};
-ghost use Rattle.loans.specs.Lending.{piece_is_out, ledger_with, Lent};
+ghost use Rattle.loans.specs.Lending.{piece_is_out, ledger_with, Lends};
 ghost use Rattle.loans.specs.Jobs.{book_of};
 
 use crate::job::Job;
@@ -55,7 +55,7 @@ impl Job {
     // Lends a piece to a borrower, and answers the loan's number. Refuses with NoSuchPiece, PieceOut, TooManyLoans or
     // NumbersUsedUp, in this order.
     pub fn loan(&mut self, piece: Piece, borrower: u32) -> Result<u32, Refusal>
-        ensures { Lent piece borrower self.old result self.new }
+        ensures { Lends piece borrower self.old result self.new }
     {
         let area = self.layout.place_of(piece)?;
         if is_out(self.outs(), piece) {

@@ -8,7 +8,7 @@ ghost use Rattle.loans.specs.Writing.{ledger_counted};
 ghost use Rattle.loans.specs.Jobs.{book_of};
 ghost use Rattle.loans.specs.Stocks.{stock_of, OursWhere};
 ghost use Rattle.loans.specs.Finding.{Found};
-ghost use Rattle.loans.specs.Strokes.{state_of, Held, stock_with, painting_of, is_outside_row, lacks_space, stroke_place, PaintTested};
+ghost use Rattle.loans.specs.Strokes.{state_of, Held, stock_with, painting_of, is_outside_row, lacks_space, PaintTested};
 
 use crate::call::Painting;
 use crate::job::Job;

@@ -2,7 +2,8 @@
 ghost use Rattle.std.specs.Prelude.{◌≡◌, ◌≤◌, length};
 ghost use Rattle.loans.specs.Stocks.{are_ours, stock_of, lies_in, OursWhere};
 ghost use Rattle.loans.specs.Jobs.{book_of};
-ghost use Rattle.loans.specs.Tallies.{Distinct, SoundAt, Tallied, agree};
+ghost use Rattle.loans.specs.Books.{NumbersRise};
+ghost use Rattle.loans.specs.Tallies.{SoundAt, Tallied, agree};
 
 use crate::job::Job;
 use crate::ledger::Loan;
@@ -31,7 +32,7 @@ fn sound_position(loans: &[Loan], mark: Mark) -> Option<usize>
 // in fixed memory beside the loans, which are only read here, by a call that takes no memory of the heap.
 fn tally(loans: &[Loan], marks: &[Mark], covered: usize) -> Option<[u32; 32]>
     requires few { length loans.now ≤ 32 }
-    requires distinct { Distinct loans.now }
+    requires rising { NumbersRise loans.now }
     requires short { length marks.now ≤ 1073741824 }
     ensures { Tallied loans.now marks.now covered result }
 {

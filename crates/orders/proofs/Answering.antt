@@ -12,7 +12,7 @@ use Rattle.loans.specs.Books.{outs}
 use Rattle.loans.specs.Calls.{Called}
 use Rattle.loans.specs.Stocks.{of_loan, marks_of, stock_of}
 use Rattle.loans.specs.Strokes.{State, state_of, Painting}
-use Rattle.loans.specs.Rules.{Deed, number_for, after, left, refusal_of, carried_out}
+use Rattle.loans.specs.Rules.{Deed, number_for, after, left, call_refusal, carried_out}
 use Rattle.loans.specs.Rules.{Deed as deeds}
 use Rattle.orders.specs.declared.order.Order.{Order}
 use Rattle.orders.specs.declared.order.Order.TheVariants.{Loan, LoanElement, Paint, Undo, Keep, Cancel}
@@ -75,7 +75,7 @@ answer_small d j j' f f' v v' (Ok n) c h =
 answer_small d j j' f f' v v' (Err e) c h = tt
 
 same_after : (s : State) (d : Deed) → (after s d).stock.most_marks ≡ s.stock.most_marks
-same_after s d = go (refusal_of s d)
+same_after s d = go (call_refusal s d)
   where
     go : (r : Option Refusal) → (left r s (carried_out s d)).stock.most_marks ≡ s.stock.most_marks
     go None = same_most s d

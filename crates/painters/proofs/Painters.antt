@@ -19,9 +19,10 @@ use Rattle.loans.specs.Stocks.{is_number, is_out, the_loan}
 use Rattle.loans.specs.Strokes.{stroke_place}
 use Rattle.loans.specs.Rules.{Deed, deed_of}
 use Rattle.loans.specs.Rules.Deed.{lend, paint, undo, keep, cancel}
-use Rattle.loans.specs.History.{Event, Stroke, written_down, history_of, granting, lent, out_in, stroke_of, covers, laying, standing}
+use Rattle.loans.specs.Lending.{granting}
+use Rattle.loans.specs.History.{Event, Stroke, written_down, history_of, lent, out_in, stroke_of, reach_over, covers, laying, standing}
 use Rattle.loans.specs.Law.{OfPiece}
-use Rattle.painters.specs.Tracing.{newest_over, paid_off, owing_more, owes_nothing, owed_before, owed, unless_out, piece_after, piece_out, area_for, reach_over, painter_by, no_call, no_answer, past_of, painter_at, IsNewest, Newest, Traced}
+use Rattle.painters.specs.Tracing.{newest_over, paid_off, owing_more, owes_nothing, owed_before, owed, unless_out, piece_after, piece_out, area_for, painter_by, no_call, no_answer, past_of, painter_at, IsNewest, NewestPainter, Traced}
 use Rattle.loans.proofs.Outs.{out_less}
 use Rattle.loans.proofs.Searches.{some_append, first_none}
 use Rattle.loans.proofs.Runs.{law_run}
@@ -167,7 +168,7 @@ loan_less (l ∷ ls) m n ne = go (eqb m l.number) refl (loan_less ls m n ne)
     go false e rest = ap (λ (x : Loan). cond (eqb n l.number) l x) rest
 
 found_lent : (t : Table) (n : ℕ) (ls : List Loan) (o : Option Piece) (x : ℕ) (p : Piece) (who : ℕ) → exists_in t p ≡ true → PieceFound t n ls o
-    → PieceFound t n (ls ++ granting t x p who ∷ []) (unless_out o (eqb n x) p)
+    → PieceFound t n (ls ++ granting x p who (area_in t p) ∷ []) (unless_out o (eqb n x) p)
 found_lent t n ls (Some q) x p who exists f =
     record {
       out = some_append (is_number n) ls _ ∙ cond-true _ _ _ f.out;
@@ -177,7 +178,7 @@ found_lent t n ls (Some q) x p who exists f =
 found_lent t n ls None x p who exists f = go (eqb n x) refl
   where
     new : List Loan
-    new = granting t x p who ∷ []
+    new = granting x p who (area_in t p) ∷ []
 
     go : (b : Bool) → eqb n x ≡ b → PieceFound t n (ls ++ new) (cond b (Some p) None)
     go true e =
@@ -396,7 +397,7 @@ owed_last cs rs n from k b few inside =
 
 -- the law has it that the loans of a run are of pieces that exist
 traced : (y : Layout) (ds : List Deed) (rs : List (Result ℕ Refusal)) (place : ℕ) (r : Option Painter)
-    → (AllByRecursion (OfPiece y.table) (lent y.table (history_of ds rs)) → Newest y.table ds rs place r) → Traced y.table ds rs place r
+    → (AllByRecursion (OfPiece y.table) (lent y.table (history_of ds rs)) → NewestPainter y.table ds rs place r) → Traced y.table ds rs place r
 traced y ds rs place r newest =
     record {
       run = λ number file k same marks bytes answers.
@@ -460,7 +461,7 @@ module _ (t : Table) (cs : List Call) (rs : List (Result ℕ Refusal)) (place j 
       (λ m. sym (owed_more m cs rs j no_call no_answer in_calls in_answers)))
 
   found_here : (p : Painter) → Some p ≡ painter_at t cs rs j place → AllByRecursion (OfPiece t) (lent t (history_of (map deed_of cs) rs))
-      → Newest t (map deed_of cs) rs place (Some p)
+      → NewestPainter t (map deed_of cs) rs place (Some p)
   found_here p e a opening =
       sym (here_or_before a opening
       ∙ ap (λ x. or_else x (newest_over (survivors (λ n. owed n (drop j cs) (drop j rs)) (standing t opening (past_of cs rs j))) place)) (sym e))

@@ -1,5 +1,5 @@
 -- Whose stroke lies over a byte, and how it is found without writing anything down.
-use Rattle.std.specs.Prelude.{◌≡◌, ℕ, ◌+◌, ◌-◌, Bool, false, cond, ◌&&◌, List, [], ◌∷◌, map, length, take, drop, Some, None, Ok, Err, Option, Result, MatchOption, ◌<◌, ◌==◌, nat_le, nat_lt, slice_index_or}
+use Rattle.std.specs.Prelude.{◌≡◌, ℕ, ◌+◌, ◌-◌, Bool, false, cond, ◌&&◌, List, [], ◌∷◌, map, length, take, drop, Some, None, Ok, Err, Option, Result, MatchOption, ◌<◌, ◌==◌, slice_index_or}
 use Rattle.std.specs.List.{AllByRecursion}
 use Rattle.refusal.specs.declared.Refusal.{Refusal}
 use Rattle.dds.specs.declared.area.Area.{Area}
@@ -13,7 +13,7 @@ use Rattle.loans.specs.Stocks.{Stock}
 use Rattle.loans.specs.Strokes.{stroke_place}
 use Rattle.loans.specs.Rules.{Deed, deed_of, answers_to}
 use Rattle.loans.specs.Rules.Deed.{lend, paint, undo, keep, cancel}
-use Rattle.loans.specs.History.{Event, Stroke, history_of, lent, standing, covers}
+use Rattle.loans.specs.History.{Event, Stroke, history_of, lent, standing, reach_over, covers}
 use Rattle.loans.specs.Law.{OfPiece}
 use Rattle.loans.specs.Runs.{opened_state}
 
@@ -24,26 +24,31 @@ newest_over (s ∷ ss) i =
     cond (covers s i) (Some (record { loan = s.painting.loan; borrower = s.painting.borrower })) (newest_over ss i)
 
 -- who laid the newest stroke standing over the byte; no stroke's reach depends on the opening's bytes
-abbrev pub Newest : Table → List Deed → List (Result ℕ Refusal) → ℕ → Option Painter → Type 0
-Newest t ds rs place r = (opening : List ℕ) → r ≡ newest_over (standing t opening (history_of ds rs)) place
+abbrev pub NewestPainter : Table → List Deed → List (Result ℕ Refusal) → ℕ → Option Painter → Type 0
+NewestPainter t ds rs place r = (opening : List ℕ) → r ≡ newest_over (standing t opening (history_of ds rs)) place
 
+-- the painter that is told is that of the newest stroke standing over the byte
 pub record Traced (t : Table) (ds : List Deed) (rs : List (Result ℕ Refusal)) (place : ℕ) (r : Option Painter) : Type 0 where
   -- after every run of calls on a job just opened, with two empty shelves
   pub run : (number : ℕ) (file : List ℕ) (k : Stock) → length file ≡ t.length → k.marks ≡ [] → k.bytes ≡ []
-      → rs ≡ answers_to (opened_state t number file k) ds → Newest t ds rs place r
+      → rs ≡ answers_to (opened_state t number file k) ds → NewestPainter t ds rs place r
   -- and by whatever calls and answers, as long as every loan granted is of a piece that exists
-  pub pieces : AllByRecursion (OfPiece t) (lent t (history_of ds rs)) → Newest t ds rs place r
+  pub pieces : AllByRecursion (OfPiece t) (lent t (history_of ds rs)) → NewestPainter t ds rs place r
 
 -- Read from the newest call to the oldest, an undo owes one stroke of its loan, which the next stroke of the loan pays; a cancel
 -- takes back all of its loan's strokes before it. A stroke stands where nothing is owed.
+
+-- a stroke of the loan pays one that is owed, if any
 abbrev pub paid_off : Bool → Option ℕ → Option ℕ
 paid_off b None = None
 paid_off b (Some k) = Some (cond b (k - 1) k)
 
+-- an undo of the loan owes one more
 abbrev pub owing_more : Bool → Option ℕ → Option ℕ
 owing_more b None = None
 owing_more b (Some k) = Some (cond b (k + 1) k)
 
+-- a stroke of the loan stands here: nothing is owed, and not all are taken back
 abbrev pub owes_nothing : Option ℕ → Bool
 owes_nothing None = false
 owes_nothing (Some k) = k == 0
@@ -63,11 +68,12 @@ owed n [] rs = Some 0
 owed n (c ∷ cs) [] = Some 0
 owed n (c ∷ cs) (r ∷ rs) = owed_before n (owed n cs rs) (deed_of c) r
 
--- the piece of the loan of a number that is out after a call; the first that was lent where a made-up history has two
+-- the piece that is out already, or else the one that is lent under the number; so of two in a made-up history the first
 abbrev pub unless_out : Option Piece → Bool → Piece → Option Piece
 unless_out (Some q) b p = Some q
 unless_out None b p = cond b (Some p) None
 
+-- the piece of a loan that is out after a call, by that before it: it comes by its loan call, and goes by keep or cancel
 abbrev pub piece_after : ℕ → Option Piece → Deed → Result ℕ Refusal → Option Piece
 piece_after n o d (Err e) = o
 piece_after n o (lend p who) (Ok x) = unless_out o (n == x) p
@@ -76,17 +82,15 @@ piece_after n o (undo m who) (Ok x) = o
 piece_after n o (keep m) (Ok x) = cond (m == n) None o
 piece_after n o (cancel m) (Ok x) = cond (m == n) None o
 
+-- the piece of the loan of a number that is out after a history
 abbrev pub piece_out : ℕ → List Event → Option Piece
 piece_out n [] = None
 piece_out n (e ∷ h) = piece_after n (piece_out n h) e.call e.answer
 
+-- the area of a piece; no bytes where none is named or none such exists
 abbrev pub area_for : Table → Option Piece → Area
 area_for t None = no_loan.area
 area_for t (Some p) = cond (exists_in t p) (area_in t p) no_loan.area
-
--- so many bytes from a place on reach over the byte at another
-abbrev pub reach_over : ℕ → ℕ → ℕ → Bool
-reach_over at n i = nat_le at i && nat_lt i (at + n)
 
 -- who painted by a call, where its stroke lies over the byte and stands
 abbrev pub painter_by : Table → (ℕ → Option Piece) → (ℕ → Option ℕ) → ℕ → Deed → Result ℕ Refusal → Option Painter
@@ -99,10 +103,11 @@ painter_by t pieces owes place (undo m who) (Ok x) = None
 painter_by t pieces owes place (keep m) (Ok x) = None
 painter_by t pieces owes place (cancel m) (Ok x) = None
 
--- what is read where no call and no answer stands
+-- what is read where no call stands
 abbrev pub no_call : Call
 no_call = Call.Loan (record { element = 0; level = 0; slice = 0 }) 0
 
+-- what is read where no answer stands
 abbrev pub no_answer : Result ℕ Refusal
 no_answer = Ok 0
 

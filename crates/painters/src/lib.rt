@@ -5,8 +5,8 @@ ghost use Rattle.std.specs.Prelude.{◌≡◌, ◌<◌, min, map, length, take, 
 ghost use Rattle.loans.specs.Jobs.{book_of};
 ghost use Rattle.loans.specs.Strokes.{painting_of, stroke_place};
 ghost use Rattle.loans.specs.Rules.{deed_of};
-ghost use Rattle.loans.specs.History.{history_of};
-ghost use Rattle.painters.specs.Tracing.{Traced, owed_before, owed, piece_after, piece_out, area_for, reach_over, painter_at, IsNewest};
+ghost use Rattle.loans.specs.History.{history_of, reach_over};
+ghost use Rattle.painters.specs.Tracing.{Traced, owed_before, owed, piece_after, piece_out, area_for, painter_at, IsNewest};
 
 use dds::{Area, Piece};
 use loans::{Answer, Call, Job, Painting};

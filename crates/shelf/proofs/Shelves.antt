@@ -5,14 +5,14 @@ use Rattle.std.proofs.lemmas.List.{get_or_read, get_or-take, get_or-drop}
 use Rattle.refusal.specs.declared.Refusal.{Refusal}
 use Rattle.shelf.specs.declared.Shelf.{Shelf}
 use Rattle.shelf.specs.Model.{capacity_of, count_of, contents}
-use Rattle.shelf.specs.Laws.{Bounded}
+use Rattle.shelf.specs.Laws.{WithinMemory}
 use Rattle.shelf.specs.Calls.{ElementAt, RunAt, Put, PutAll, TakeOff, Slide, Truncate}
 use Rattle.shelf.proofs.Runs.{slid_front, slid_behind}
 
 module _ {X : Type 0} where
-  pub bounded : (s : Shelf X) → Bounded s
+  pub within_memory : (s : Shelf X) → WithinMemory s
   unfolding capacity_of count_of contents
-  bounded s =
+  within_memory s =
       let inside : count_of s ≤ length s.memory.now = omega arith in
       record {
         counted = length-take (count_of s) s.memory.now ∙ min-eq_left inside;
@@ -22,13 +22,13 @@ module _ {X : Type 0} where
       }
 
   pub counted : (s : Shelf X) → length (contents s) ≡ count_of s
-  counted s = (bounded s).counted
+  counted s = (within_memory s).counted
 
   pub count_within : (s : Shelf X) → count_of s ≤ capacity_of s
-  count_within s = (bounded s).within
+  count_within s = (within_memory s).within
 
   pub capacity_capped : (s : Shelf X) → capacity_of s ≤ 1073741824
-  capacity_capped s = (bounded s).capped
+  capacity_capped s = (within_memory s).capped
 
   -- what a read answers, whatever stands in for an element past the count
   pub element_at : (s : Shelf X) (position : ℕ) (x d : X) → ElementAt s position x → x ≡ get_or (contents s) position d
@@ -37,10 +37,10 @@ module _ {X : Type 0} where
       get_or_read (contents s) position x inside found.element d
 
   -- the elements of a part are those of the shelf from the part's position on
-  pub element_of_part : (s : Shelf X) (position number : ℕ) (part : List X) (i : ℕ) (d : X) → RunAt s position number part → i < number
+  pub element_of_part : (s : Shelf X) (position count : ℕ) (part : List X) (i : ℕ) (d : X) → RunAt s position count part → i < count
       → get_or part i d ≡ get_or (contents s) (position + i) d
-  element_of_part s position number part i d run inside =
-      ap (λ xs. get_or xs i d) run.elements ∙ get_or-take number (drop position (contents s)) i d inside ∙ get_or-drop position (contents s) i d
+  element_of_part s position count part i d run inside =
+      ap (λ xs. get_or xs i d) run.elements ∙ get_or-take count (drop position (contents s)) i d inside ∙ get_or-drop position (contents s) i d
 
   -- where a call may be carried out, it is
   pub put_done : (s t : Shelf X) (x : X) (r : Result ℕ Refusal) → count_of s < capacity_of s → Put s x r t
@@ -53,16 +53,16 @@ module _ {X : Type 0} where
   put_all_done s t xs (Ok n) allowed call = (ap Ok call.answer, subst (λ m. PutAll s xs (Ok m) t) call.answer call)
   put_all_done s t xs (Err e) allowed call = absurd (omega (arith, call.wrong))
 
-  pub take_off_done : (s t : Shelf X) (position number : ℕ) (r : Result ℕ Refusal) → position + number ≤ count_of s → TakeOff s position number r t
-      → (r ≡ Ok (count_of s - number)) × TakeOff s position number (Ok (count_of s - number)) t
-  take_off_done s t position number (Ok n) allowed call =
-      (ap Ok call.answer, subst (λ m. TakeOff s position number (Ok m) t) call.answer call)
-  take_off_done s t position number (Err e) allowed call = absurd (omega (arith, call.wrong))
+  pub take_off_done : (s t : Shelf X) (position count : ℕ) (r : Result ℕ Refusal) → position + count ≤ count_of s → TakeOff s position count r t
+      → (r ≡ Ok (count_of s - count)) × TakeOff s position count (Ok (count_of s - count)) t
+  take_off_done s t position count (Ok n) allowed call =
+      (ap Ok call.answer, subst (λ m. TakeOff s position count (Ok m) t) call.answer call)
+  take_off_done s t position count (Err e) allowed call = absurd (omega (arith, call.wrong))
 
-  pub slide_done : (s t : Shelf X) (from number to : ℕ) (r : Result Unit Refusal) → from + number ≤ count_of s → to ≤ from
-      → Slide s from number to r t → (r ≡ Ok tt) × Slide s from number to (Ok tt) t
-  slide_done s t from number to (Ok u) inside down call = (refl, call)
-  slide_done s t from number to (Err e) inside down call =
+  pub slide_done : (s t : Shelf X) (from count to : ℕ) (r : Result Unit Refusal) → from + count ≤ count_of s → to ≤ from
+      → Slide s from count to r t → (r ≡ Ok tt) × Slide s from count to (Ok tt) t
+  slide_done s t from count to (Ok u) inside down call = (refl, call)
+  slide_done s t from count to (Err e) inside down call =
       ⊎_elim (λ past. absurd (omega arith)) (λ up. absurd (omega arith)) call.wrong
 
   pub truncate_done : (s t : Shelf X) (count : ℕ) (r : Result ℕ Refusal) → count ≤ count_of s → Truncate s count r t
@@ -72,14 +72,14 @@ module _ {X : Type 0} where
 
   -- after a slide the run stands behind what is below it, and what is behind the run's new end is as it was: so whoever slides down one run
   -- after the other has these runs in front, and what is still to come as it was
-  pub slide_front : (s t : Shelf X) (from number to : ℕ) → Slide s from number to (Ok tt) t
-      → take (to + number) (contents t) ≡ take to (contents s) ++ take number (drop from (contents s))
-  slide_front s t from number to call =
-      let inside : from + number ≤ length (contents s) = omega (arith, counted s, call.allowed.0) in
-      ap (λ xs. take (to + number) xs) call.holds ∙ slid_front (contents s) from number to call.allowed.1 inside
+  pub slide_front : (s t : Shelf X) (from count to : ℕ) → Slide s from count to (Ok tt) t
+      → take (to + count) (contents t) ≡ take to (contents s) ++ take count (drop from (contents s))
+  slide_front s t from count to call =
+      let inside : from + count ≤ length (contents s) = omega (arith, counted s, call.allowed.0) in
+      ap (λ xs. take (to + count) xs) call.holds ∙ slid_front (contents s) from count to call.allowed.1 inside
 
-  pub slide_behind : (s t : Shelf X) (from number to position : ℕ) → Slide s from number to (Ok tt) t → to + number ≤ position
+  pub slide_behind : (s t : Shelf X) (from count to position : ℕ) → Slide s from count to (Ok tt) t → to + count ≤ position
       → drop position (contents t) ≡ drop position (contents s)
-  slide_behind s t from number to position call behind =
-      let inside : from + number ≤ length (contents s) = omega (arith, counted s, call.allowed.0) in
-      ap (λ xs. drop position xs) call.holds ∙ slid_behind (contents s) from number to position call.allowed.1 inside behind
+  slide_behind s t from count to position call behind =
+      let inside : from + count ≤ length (contents s) = omega (arith, counted s, call.allowed.0) in
+      ap (λ xs. drop position xs) call.holds ∙ slid_behind (contents s) from count to position call.allowed.1 inside behind

@@ -24,11 +24,11 @@ pub record TurnedDown {X : Type 0} (must : Type 0) (refusal e : Refusal) (s t : 
 module _ {X : Type 0} where
   -- a list without the run of so many elements at a position
   abbrev pub without_run : ℕ → ℕ → List X → List X
-  without_run position number xs = take position xs ++ drop (position + number) xs
+  without_run position count xs = take position xs ++ drop (position + count) xs
 
   -- a list whose run of so many elements at one position was copied over those at another
   abbrev pub slid_down : ℕ → ℕ → ℕ → List X → List X
-  slid_down from number to xs = take to xs ++ take number (drop from xs) ++ drop (to + number) xs
+  slid_down from count to xs = take to xs ++ take count (drop from xs) ++ drop (to + count) xs
 
   -- the element of a shelf at a position
   pub record ElementAt (s : Shelf X) (position : ℕ) (x : X) : Type 0 where
@@ -36,10 +36,10 @@ module _ {X : Type 0} where
     pub element : x ≡ slice_index_or (contents s) position x
 
   -- the run of so many elements of a shelf at a position
-  pub record RunAt (s : Shelf X) (position number : ℕ) (xs : List X) : Type 0 where
-    pub allowed : position + number ≤ count_of s
-    pub count : length xs ≡ number
-    pub elements : xs ≡ take number (drop position (contents s))
+  pub record RunAt (s : Shelf X) (position count : ℕ) (xs : List X) : Type 0 where
+    pub allowed : position + count ≤ count_of s
+    pub sized : length xs ≡ count
+    pub elements : xs ≡ take count (drop position (contents s))
 
   -- a new shelf, in memory that holds these elements: it has none of them
   pub record New (lent : List X) (t : Shelf X) : Type 0 where
@@ -65,20 +65,20 @@ module _ {X : Type 0} where
 
   -- a run of the elements
   abbrev pub Part : Shelf X → ℕ → ℕ → Result (Bor (List X)) Refusal → Type 0
-  Part s position number (Ok r) = RunAt s position number r.now
-  Part s position number (Err e) = TurnedDown (count_of s < position + number) PastCount e s s
+  Part s position count (Ok r) = RunAt s position count r.now
+  Part s position count (Err e) = TurnedDown (count_of s < position + count) PastCount e s s
 
   -- a run taken off, and the gap closed
   abbrev pub TakeOff : Shelf X → ℕ → ℕ → Result ℕ Refusal → Shelf X → Type 0
-  TakeOff s position number (Ok n) t =
-      CarriedOut (position + number ≤ count_of s) (without_run position number (contents s)) (count_of s - number) n s t
-  TakeOff s position number (Err e) t = TurnedDown (count_of s < position + number) PastCount e s t
+  TakeOff s position count (Ok n) t =
+      CarriedOut (position + count ≤ count_of s) (without_run position count (contents s)) (count_of s - count) n s t
+  TakeOff s position count (Err e) t = TurnedDown (count_of s < position + count) PastCount e s t
 
   -- a run moved down over what stood there; where it answers nothing, the count after it stands for the answer
   abbrev pub Slide : Shelf X → ℕ → ℕ → ℕ → Result Unit Refusal → Shelf X → Type 0
-  Slide s from number to (Ok _) t =
-      CarriedOut ((from + number ≤ count_of s) × (to ≤ from)) (slid_down from number to (contents s)) (count_of s) (count_of t) s t
-  Slide s from number to (Err e) t = TurnedDown ((count_of s < from + number) ⊎ (from < to)) PastCount e s t
+  Slide s from count to (Ok _) t =
+      CarriedOut ((from + count ≤ count_of s) × (to ≤ from)) (slid_down from count to (contents s)) (count_of s) (count_of t) s t
+  Slide s from count to (Err e) t = TurnedDown ((count_of s < from + count) ⊎ (from < to)) PastCount e s t
 
   -- the first elements kept
   abbrev pub Truncate : Shelf X → ℕ → Result ℕ Refusal → Shelf X → Type 0

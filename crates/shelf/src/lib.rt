@@ -3,7 +3,7 @@
 
 ghost use Rattle.std.specs.Prelude.{◌≡◌, ℕ, ◌+◌, nat_le};
 ghost use Rattle.shelf.specs.Model.{contents, count_of, capacity_of, space_of};
-ghost use Rattle.shelf.specs.Laws.{Bounded};
+ghost use Rattle.shelf.specs.Laws.{WithinMemory};
 ghost use Rattle.shelf.specs.Calls.{New, Put, PutAll, Read, Part, TakeOff, Slide, Truncate};
 
 use refusal::Refusal;
@@ -15,7 +15,7 @@ mod tests;
 const MOST: usize = 1_073_741_824;
 
 // Holds the first `count` elements of the memory; what stands past them is nobody's. What it holds is defined for any
-// count, also one past the capacity, so that no shelf is out of line. So `Bounded` holds of each by the definitions alone, and
+// count, also one past the capacity, so that no shelf is out of line. So `WithinMemory` holds of each by the definitions alone, and
 // no ghost field could say it of the whole shelf: the calls that read one tell it to their callers.
 #[derive(Drop)]
 pub struct Shelf<'a, T> {
@@ -37,7 +37,7 @@ impl<'a, T: Copy> Shelf<'a, T> {
     #[tactic(auto, unfolding(crate::specs::Model::capacity_of))]
     pub fn capacity(&self) -> usize
         ensures value { result ≡ capacity_of self.now }
-        ensures bounded { Bounded self.now }
+        ensures within { WithinMemory self.now }
     {
         self.memory.len().min(MOST)
     }
@@ -46,7 +46,7 @@ impl<'a, T: Copy> Shelf<'a, T> {
     #[tactic(auto, unfolding(crate::specs::Model::count_of))]
     pub fn count(&self) -> usize
         ensures value { result ≡ count_of self.now }
-        ensures bounded { Bounded self.now }
+        ensures within { WithinMemory self.now }
     {
         self.count.min(self.capacity())
     }
@@ -54,7 +54,7 @@ impl<'a, T: Copy> Shelf<'a, T> {
     // How many more elements it can hold.
     pub fn space_left(&self) -> usize
         ensures value { result ≡ space_of self.now }
-        ensures bounded { Bounded self.now }
+        ensures within { WithinMemory self.now }
     {
         self.capacity() - self.count()
     }
@@ -63,7 +63,7 @@ impl<'a, T: Copy> Shelf<'a, T> {
     #[tactic(auto, unfolding(crate::specs::Model::contents))]
     pub fn elements(&self) -> &[T]
         ensures value { result.now ≡ contents self.now }
-        ensures bounded { Bounded self.now }
+        ensures within { WithinMemory self.now }
     {
         let count = self.count();
         &self.memory[0..count]
@@ -97,24 +97,24 @@ impl<'a, T: Copy> Shelf<'a, T> {
         Ok(end)
     }
 
-    // The run of `number` elements at `position` ends within the count. Their sum could wrap, so the difference is compared.
-    fn has_run(&self, position: usize, number: usize) -> bool
-        ensures value { result ≡ nat_le (position + number) (count_of self.now) }
-        ensures bounded { Bounded self.now }
+    // The run of `count` elements at `position` ends within what the shelf holds. Their sum could wrap, so the difference is compared.
+    fn has_run(&self, position: usize, count: usize) -> bool
+        ensures value { result ≡ nat_le (position + count) (count_of self.now) }
+        ensures within { WithinMemory self.now }
     {
-        let count = self.count();
-        position <= count && number <= count - position
+        let held = self.count();
+        position <= held && count <= held - position
     }
 
-    // The run of `number` elements at `position`, lent for reading. Refuses with PastCount.
+    // The run of `count` elements at `position`, lent for reading. Refuses with PastCount.
     #[tactic(auto, using(crate::proofs::Runs::run_within), unfolding(crate::specs::Model::contents))]
-    pub fn part(&self, position: usize, number: usize) -> Result<&[T], Refusal>
-        ensures { Part self.now position number result }
+    pub fn part(&self, position: usize, count: usize) -> Result<&[T], Refusal>
+        ensures { Part self.now position count result }
     {
-        if !self.has_run(position, number) {
+        if !self.has_run(position, count) {
             return Err(Refusal::PastCount);
         }
-        Ok(&self.memory[position..position + number])
+        Ok(&self.memory[position..position + count])
     }
 
     // The element at a position. Refuses with PastCount.
@@ -125,16 +125,16 @@ impl<'a, T: Copy> Shelf<'a, T> {
         Ok(found[0])
     }
 
-    // Moves the run of `number` elements at `from` down to `to`, over what stood there; the count stays. Refuses with
+    // Moves the run of `count` elements at `from` down to `to`, over what stood there; how many it holds stays. Refuses with
     // PastCount, also where `to` is past `from`. Many gaps are closed in one pass by sliding down each run that stays, from
     // the first on, and then truncating.
-    pub fn slide(&mut self, from: usize, number: usize, to: usize) -> Result<(), Refusal>
-        ensures { Slide self.old from number to result self.new }
+    pub fn slide(&mut self, from: usize, count: usize, to: usize) -> Result<(), Refusal>
+        ensures { Slide self.old from count to result self.new }
     {
-        if to > from || !self.has_run(from, number) {
+        if to > from || !self.has_run(from, count) {
             return Err(Refusal::PastCount);
         }
-        self.memory.copy_within(from..from + number, to);
+        self.memory.copy_within(from..from + count, to);
         Ok(())
     }
 
@@ -149,16 +149,16 @@ impl<'a, T: Copy> Shelf<'a, T> {
         Ok(count)
     }
 
-    // Removes the run of `number` elements at `position`, closes the gap, and answers the new count. Refuses with PastCount.
-    pub fn take_off(&mut self, position: usize, number: usize) -> Result<usize, Refusal>
-        ensures { TakeOff self.old position number result self.new }
+    // Removes the run of `count` elements at `position`, closes the gap, and answers the new count. Refuses with PastCount.
+    pub fn take_off(&mut self, position: usize, count: usize) -> Result<usize, Refusal>
+        ensures { TakeOff self.old position count result self.new }
     {
-        if !self.has_run(position, number) {
+        if !self.has_run(position, count) {
             return Err(Refusal::PastCount);
         }
-        let end = position + number;
-        let count = self.count();
-        self.slide(end, count - end, position)?;
-        self.truncate(count - number)
+        let end = position + count;
+        let held = self.count();
+        self.slide(end, held - end, position)?;
+        self.truncate(held - count)
     }
 }

@@ -7,12 +7,6 @@ use Rattle.loans.specs.declared.ledger.Loan.{Loan}
 use Rattle.loans.specs.Lending.{same_piece, piece_is_out}
 use Rattle.loans.proofs.lending.is_out.Goals as goal
 
--- a piece is out where some loan has it
-outs_any : (p : Piece) (ls : List Loan) → list_any (λ (l : Loan). same_piece l.piece p) ls ≡ piece_is_out ls p
-outs_any p [] = refl
-outs_any p (l ∷ ls) = ap (λ b. same_piece l.piece p || b) (outs_any p ls)
-
 pub returns : goal.returns
 returns c =
     any_from_yields_List (λ (l : Loan). same_piece l.piece c.args.piece) _ _ _ c.any.ensures.ran (YieldsList-from_slice c.args.loans.now cc) (λ x b q k. search (rules, tests))
-    ∙ outs_any c.args.piece c.args.loans.now

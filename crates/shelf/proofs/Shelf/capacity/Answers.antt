@@ -1,5 +1,5 @@
-use Rattle.shelf.proofs.Shelves.{bounded}
+use Rattle.shelf.proofs.Shelves.{within_memory}
 use Rattle.shelf.proofs.Shelf.capacity.Goals as goal
 
-pub returns-clause-bounded : goal.returns-clause-bounded
-returns-clause-bounded g c = bounded c.args.self.now
+pub returns-clause-within : goal.returns-clause-within
+returns-clause-within g c = within_memory c.args.self.now

@@ -8,8 +8,8 @@ pub returns : goal.returns
 unfolding capacity_of count_of contents
 returns g c =
     let down : c.args.to ≤ c.args.from = search rules in
-    let inside : c.args.from + c.args.number ≤ count_of c.args.self.now = search rules in
-    let slid = slid_within c.args.self.now.memory.now (count_of c.args.self.now) c.args.from c.args.number c.args.to
+    let inside : c.args.from + c.args.count ≤ count_of c.args.self.now = search rules in
+    let slid = slid_within c.args.self.now.memory.now (count_of c.args.self.now) c.args.from c.args.count c.args.to
     down inside (search rules) in
     carried_out_lem _ _ (inside, down) (ap (λ n. min c.args.self.now.count (min n 1073741824)) c.copy_within.ensures.len)
     c.copy_within.ensures.len refl (ap (λ xs. take (count_of c.args.self.now) xs) c.copy_within.ensures.after ∙ slid)

@@ -1,5 +1,6 @@
 use Rattle.std.proofs.Common.{◌≡◌, ◌-◌, ◌<◌, sym, subst, arith, rules}
-use Rattle.loans.specs.Books.{Balanced, Inside, Given, Rising}
+use Rattle.loans.specs.declared.ledger.Ledger.{Ledger}
+use Rattle.loans.specs.Books.{Balanced, Inside, NumbersGiven, NumbersRise, outs}
 use Rattle.loans.specs.Writing.{kept_by, cancelled_by, ledger_ended}
 use Rattle.loans.proofs.Counting.{out_count}
 use Rattle.loans.proofs.Ended.{counts_one, ended_balanced, ended_inside, ended_given, ended_rising}
@@ -23,6 +24,6 @@ invariant_of-self c =
     record {
       balanced = subst Balanced (sym is) (ended_balanced s.ledger s.balanced c.args.position more less m y out (counts_one c.args.ending));
       inside = subst (Inside s.layout.table.length) (sym is) (ended_inside s.ledger s.balanced c.args.position more less m y out s.layout.table.length s.inside);
-      given = subst Given (sym is) (ended_given s.ledger s.balanced c.args.position more less m y out s.given);
-      rising = subst Rising (sym is) (ended_rising s.ledger s.balanced c.args.position more less m y out s.rising);
+      given = subst NumbersGiven (sym is) (ended_given s.ledger s.balanced c.args.position more less m y out s.given);
+      rising = subst (λ (x : Ledger). NumbersRise (outs x)) (sym is) (ended_rising s.ledger s.balanced c.args.position more less m y out (counts_one c.args.ending) s.rising);
     }

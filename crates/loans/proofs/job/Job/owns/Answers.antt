@@ -2,14 +2,12 @@ use Rattle.std.proofs.Common.{ℕ, length, sym, ap, ◌∙◌, subst}
 use Rattle.shelf.specs.declared.Shelf.{Shelf}
 use Rattle.shelf.specs.Model.{contents}
 use Rattle.shelf.proofs.Shelves.{counted}
-use Rattle.loans.specs.Tallies.{Distinct}
-use Rattle.loans.proofs.Owning.{outs_distinct, owned}
+use Rattle.loans.specs.Books.{NumbersRise}
+use Rattle.loans.proofs.Owning.{owned}
 use Rattle.loans.proofs.job.Job.owns.Goals as goal
 
-pub tally-requires-clause-distinct : goal.tally-requires-clause-distinct
-tally-requires-clause-distinct c =
-    let s = c.args.self.now in
-    subst Distinct (sym c.outs.ensures) (outs_distinct s.ledger s.balanced s.rising)
+pub tally-requires-clause-rising : goal.tally-requires-clause-rising
+tally-requires-clause-rising c = subst NumbersRise (sym c.outs.ensures) c.args.self.now.rising
 
 pub returns-in-Some : goal.returns-in-Some
 returns-in-Some c =
