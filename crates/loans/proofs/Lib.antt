@@ -22,6 +22,7 @@ pub mod Runs
 mod Painted
 mod Newest
 mod Undone
+mod Leading
 mod Sifted
 mod Ended
 mod Endings

@@ -1,28 +1,30 @@
--- Closing the gaps that a loan's marks and bytes leave on the shelves, in one pass.
-use Rattle.std.proofs.Common.{◌≡◌, ℕ, ◌+◌, ◌<◌, ◌≤◌, Bool, true, false, cond, not, ◌≢◌, List, [], ◌∷◌, ◌++◌, length, get_or, take, drop, Result, sym, refl, ap, ◌∙◌, ap₂, append_assoc, append-nil, arith, length-drop, take-append-drop, length-take-le, get_or-drop, take_all, drop-drop}
+-- Closing the gaps that a loan's marks and bytes leave on the shelves, run after run.
+use Rattle.std.proofs.Common.{◌≡◌, ℕ, ◌+◌, ◌≤◌, Bool, true, false, cond, not, List, [], ◌∷◌, ◌++◌, length, get_or, take, drop, Result, sym, refl, ap, ◌∙◌, ap₂, subst, subst₂, append_assoc, append-nil, arith, length-drop, take-append-drop, length-take-le, take-add, take_all, drop-drop}
 use Rattle.std.proofs.lemmas.List.Elements.{filter-append}
-use Rattle.std.proofs.lemmas.List.{take_more, length-append, at_drop_more}
-use Rattle.std.proofs.lemmas.Bool.{cond-true, cond-false, eq-eqb, ne_eqb}
+use Rattle.std.proofs.lemmas.List.{length-append}
+use Rattle.std.proofs.lemmas.Bool.{cond-false, true≢false, eq-eqb}
 use Rattle.refusal.specs.declared.Refusal.{Refusal}
 use Rattle.shelf.specs.Calls.{Slide, Truncate, slid_down}
 use Rattle.shelf.proofs.Shelves.{counted, slide_done, truncate_done}
 use Rattle.shelf.proofs.Runs.{slid_front, slid_behind}
-use Rattle.loans.specs.declared.ending.Ends.{Ends}
 use Rattle.loans.specs.declared.mark.Mark.{Mark}
 use Rattle.loans.specs.declared.mark.Shelves.{Shelves}
-use Rattle.loans.specs.Lists.{less_all}
+use Rattle.loans.specs.declared.sifting.Amount.{Amount}
+use Rattle.loans.specs.Lists.{some_of, less_all}
 use Rattle.loans.specs.Stocks.{Stock, stock_of, of_loan, lengths}
 use Rattle.loans.specs.Taking.{no_mark}
 use Rattle.loans.specs.Ending.{bytes_of, stock_without}
-use Rattle.loans.specs.Sifting.{CanSlide, stock_slid}
+use Rattle.loans.specs.Sifting.{Leads, CanSlide, stock_slid}
+use Rattle.loans.proofs.Listed.{less_all_none}
 use Rattle.loans.proofs.Newest.{lengths_append}
+use Rattle.loans.proofs.Searches.{none_all}
 
-pub slid : (v w : Shelves) (position begin n : ℕ) (to : Ends) (r r' : Result Unit Refusal) → CanSlide (stock_of v) position begin n to
-    → Slide v.marks position 1 to.marks r w.marks → Slide v.bytes begin n to.bytes r' w.bytes
-    → stock_of w ≡ stock_slid (stock_of v) position begin n to
-slid v w position begin n to r r' fits marks bytes =
-    let p = (slide_done v.marks w.marks position 1 to.marks r (omega (arith, fits.mark, counted v.marks)) fits.marks_down marks).1 in
-    let q = (slide_done v.bytes w.bytes begin n to.bytes r' (omega (arith, fits.bytes, counted v.bytes)) fits.bytes_down bytes).1 in
+pub slid : (v w : Shelves) (behind run stays : Amount) (r r' : Result Unit Refusal) → CanSlide (stock_of v) behind run stays
+    → Slide v.marks behind.marks run.marks stays.marks r w.marks → Slide v.bytes behind.bytes run.bytes stays.bytes r' w.bytes
+    → stock_of w ≡ stock_slid (stock_of v) behind run stays
+slid v w behind run stays r r' fits marks bytes =
+    let p = (slide_done v.marks w.marks behind.marks run.marks stays.marks r (omega (arith, fits.marks, counted v.marks)) fits.marks_down marks).1 in
+    let q = (slide_done v.bytes w.bytes behind.bytes run.bytes stays.bytes r' (omega (arith, fits.bytes, counted v.bytes)) fits.bytes_down bytes).1 in
     λ i. record { marks = p.holds i; bytes = q.holds i; most_marks = p.capacity i; most_bytes = q.capacity i }
 
 pub length_slid : {X : Type 0} (xs : List X) (from n to : ℕ) → to ≤ from → from + n ≤ length xs → length (slid_down from n to xs) ≡ length xs
@@ -32,140 +34,212 @@ length_slid xs from n to down inside =
     let c = length-drop (to + n) xs in
     length-append (take to xs ++ take n (drop from xs)) (drop (to + n) xs) ∙ omega (arith, length-append (take to xs) (take n (drop from xs)))
 
-bytes_of_append : (p : Mark → Bool) (ms ns : List Mark) (ks : List ℕ) → bytes_of p (ms ++ ns) ks ≡ bytes_of p ms ks ++ bytes_of p ns (drop (lengths ms) ks)
-bytes_of_append p [] ns ks = refl
-bytes_of_append p (m ∷ ms) ns ks =
-    let rest : bytes_of p (ms ++ ns) (drop m.length ks) ≡ bytes_of p ms (drop m.length ks) ++ bytes_of p ns (drop (m.length + lengths ms) ks) =
-    bytes_of_append p ms ns (drop m.length ks) ∙ ap (λ y. bytes_of p ms (drop m.length ks) ++ bytes_of p ns y) (drop-drop (lengths ms) m.length ks) in
-    go (p m) rest
+-- the bytes that stay of a loan's shelves
+abbrev rest_of : ℕ → List Mark → List ℕ → List ℕ
+rest_of n = bytes_of (λ m. not (of_loan n m))
+
+rest_append : (n : ℕ) (ms ns : List Mark) (ks : List ℕ) → rest_of n (ms ++ ns) ks ≡ rest_of n ms ks ++ rest_of n ns (drop (lengths ms) ks)
+rest_append n [] ns ks = refl
+rest_append n (m ∷ ms) ns ks =
+    let rest : rest_of n (ms ++ ns) (drop m.length ks) ≡ rest_of n ms (drop m.length ks) ++ rest_of n ns (drop (m.length + lengths ms) ks) =
+    rest_append n ms ns (drop m.length ks) ∙ ap (λ y. rest_of n ms (drop m.length ks) ++ rest_of n ns y) (drop-drop (lengths ms) m.length ks) in
+    go (not (of_loan n m)) rest
   where
-    go : (b : Bool) → bytes_of p (ms ++ ns) (drop m.length ks) ≡ bytes_of p ms (drop m.length ks) ++ bytes_of p ns (drop (m.length + lengths ms) ks)
-        → cond b (take m.length ks ++ bytes_of p (ms ++ ns) (drop m.length ks)) (bytes_of p (ms ++ ns) (drop m.length ks))
-        ≡ cond b (take m.length ks ++ bytes_of p ms (drop m.length ks)) (bytes_of p ms (drop m.length ks)) ++ bytes_of p ns (drop (m.length + lengths ms) ks)
+    go : (b : Bool) → rest_of n (ms ++ ns) (drop m.length ks) ≡ rest_of n ms (drop m.length ks) ++ rest_of n ns (drop (m.length + lengths ms) ks)
+        → cond b (take m.length ks ++ rest_of n (ms ++ ns) (drop m.length ks)) (rest_of n (ms ++ ns) (drop m.length ks))
+        ≡ cond b (take m.length ks ++ rest_of n ms (drop m.length ks)) (rest_of n ms (drop m.length ks)) ++ rest_of n ns (drop (m.length + lengths ms) ks)
     go true e =
         ap (λ ys. take m.length ks ++ ys) e
-        ∙ sym (append_assoc (take m.length ks) (bytes_of p ms (drop m.length ks)) (bytes_of p ns (drop (m.length + lengths ms) ks)))
+        ∙ sym (append_assoc (take m.length ks) (rest_of n ms (drop m.length ks)) (rest_of n ns (drop (m.length + lengths ms) ks)))
     go false e = e
 
--- after the first i marks: what of them stays stands in front, and all behind them stands as it did
-pub record Sifted (old st : Stock) (n i begin' : ℕ) (ends : Ends) : Type 0 where
-  pub marks_front : take ends.marks st.marks ≡ less_all (of_loan n) (take i old.marks)
-  pub marks_back : drop i st.marks ≡ drop i old.marks
-  pub marks_low : ends.marks ≤ i
+-- of other loans' marks all bytes stay
+rest_others : (n : ℕ) (ms : List Mark) (ks : List ℕ) → some_of (of_loan n) ms ≡ false → rest_of n ms ks ≡ take (lengths ms) ks
+rest_others n [] ks h = refl
+rest_others n (m ∷ ms) ks h = go (of_loan n m) h (rest_others n ms (drop m.length ks))
+  where
+    go : (b : Bool) → cond b true (some_of (of_loan n) ms) ≡ false → (some_of (of_loan n) ms ≡ false → rest_of n ms (drop m.length ks) ≡ take (lengths ms) (drop m.length ks))
+        → cond (not b) (take m.length ks ++ rest_of n ms (drop m.length ks)) (rest_of n ms (drop m.length ks)) ≡ take (m.length + lengths ms) ks
+    go true h' later = absurd (true≢false h')
+    go false h' later = ap (λ ys. take m.length ks ++ ys) (later h') ∙ sym (take-add m.length (lengths ms) ks)
+
+-- once so much was passed: what of it stays stands in front, and all behind it stands as it did
+pub record Sifted (old st : Stock) (n : ℕ) (passed stays : Amount) : Type 0 where
+  pub marks_front : take stays.marks st.marks ≡ less_all (of_loan n) (take passed.marks old.marks)
+  pub marks_back : drop passed.marks st.marks ≡ drop passed.marks old.marks
+  pub marks_low : stays.marks ≤ passed.marks
+  pub marks_in : passed.marks ≤ length old.marks
   pub marks_count : length st.marks ≡ length old.marks
-  pub bytes_front : take ends.bytes st.bytes ≡ bytes_of (λ m. not (of_loan n m)) (take i old.marks) old.bytes
-  pub bytes_back : drop begin' st.bytes ≡ drop begin' old.bytes
-  pub bytes_low : ends.bytes ≤ begin'
+  pub bytes_front : take stays.bytes st.bytes ≡ rest_of n (take passed.marks old.marks) old.bytes
+  pub bytes_back : drop passed.bytes st.bytes ≡ drop passed.bytes old.bytes
+  pub bytes_low : stays.bytes ≤ passed.bytes
   pub bytes_count : length st.bytes ≡ length old.bytes
-  pub begin : begin' ≡ lengths (take i old.marks)
+  pub begin : passed.bytes ≡ lengths (take passed.marks old.marks)
   pub most_marks : st.most_marks ≡ old.most_marks
   pub most_bytes : st.most_bytes ≡ old.most_bytes
 
-module _ {old st : Stock} {n i begin : ℕ} {ends : Ends} (s : Sifted old st n i begin ends) (inside : i < length old.marks)
-    (covered : lengths old.marks ≡ length old.bytes) {m : Mark} (here : m ≡ get_or st.marks i no_mark) where
-  -- the mark at hand is still the old one
-  mark_is : m ≡ get_or old.marks i no_mark
-  mark_is =
-      let on : i + 0 ≡ i = omega arith in
-      here ∙ ap (λ x. get_or st.marks x no_mark) (sym on) ∙ sym (get_or-drop i st.marks 0 no_mark)
-      ∙ ap (λ xs. get_or xs 0 no_mark) s.marks_back ∙ get_or-drop i old.marks 0 no_mark ∙ ap (λ x. get_or old.marks x no_mark) on
+-- a run of marks behind what was passed, and their bytes
+module _ {old st : Stock} {n : ℕ} {passed stays : Amount} (s : Sifted old st n passed stays) (covered : lengths old.marks ≡ length old.bytes)
+    (run : Amount) (inside : run.marks ≤ length (drop passed.marks st.marks)) (bytes : run.bytes ≡ lengths (take run.marks (drop passed.marks st.marks))) where
+  abbrev run_marks : List Mark
+  run_marks = take run.marks (drop passed.marks old.marks)
 
-  one_more : take (i + 1) old.marks ≡ take i old.marks ++ m ∷ []
-  one_more = take_more old.marks i no_mark inside ∙ ap (λ x. take i old.marks ++ x ∷ []) (sym mark_is)
+  run_is : take run.marks (drop passed.marks st.marks) ≡ run_marks
+  run_is = ap (take run.marks) s.marks_back
 
-  rest_is : drop i old.marks ≡ m ∷ drop (i + 1) old.marks
-  rest_is = at_drop_more (λ xs. xs) old.marks i no_mark inside ∙ ap (λ x. x ∷ drop (i + 1) old.marks) (sym mark_is)
+  more : take (passed.marks + run.marks) old.marks ≡ take passed.marks old.marks ++ run_marks
+  more = take-add passed.marks run.marks old.marks
 
-  begin_more : begin + m.length ≡ lengths (take (i + 1) old.marks)
-  begin_more = sym (ap lengths one_more ∙ lengths_append (take i old.marks) (m ∷ []) ∙ omega (arith, s.begin))
+  pub inside_old : passed.marks + run.marks ≤ length old.marks
+  inside_old = omega (arith, inside, ap length s.marks_back, length-drop passed.marks old.marks, s.marks_in)
 
-  pub stands : begin + m.length ≤ length st.bytes
+  begin_more : passed.bytes + run.bytes ≡ lengths (take (passed.marks + run.marks) old.marks)
+  begin_more = sym (ap lengths more ∙ lengths_append (take passed.marks old.marks) run_marks ∙ omega (arith, s.begin, bytes, ap lengths run_is))
+
+  pub stands : passed.bytes + run.bytes ≤ length st.bytes
   stands =
-      let all = ap lengths (sym (take_all (length old.marks) old.marks (omega arith))) in
-      let split = lengths_split old.marks (i + 1) in
-      omega (arith, begin_more, split, covered, s.bytes_count)
-    where
-      lengths_split : (ms : List Mark) (j : ℕ) → lengths ms ≡ lengths (take j ms) + lengths (drop j ms)
-      lengths_split ms j = ap lengths (sym (take-append-drop j ms)) ∙ lengths_append (take j ms) (drop j ms)
+      let all = ap lengths (sym (take-append-drop (passed.marks + run.marks) old.marks)) in
+      let split = lengths_append (take (passed.marks + run.marks) old.marks) (drop (passed.marks + run.marks) old.marks) in
+      omega (arith, begin_more, all, split, covered, s.bytes_count)
 
-  pub fits : CanSlide st i begin m.length ends
-  fits = record { mark = omega (arith, s.marks_count); bytes = stands; marks_down = s.marks_low; bytes_down = s.bytes_low }
+  pub can_slide : CanSlide st passed run stays
+  can_slide = record { marks = omega (arith, inside_old, s.marks_count); bytes = stands; marks_down = s.marks_low; bytes_down = s.bytes_low }
 
-  back_more : (xs ys : List Mark) → drop i xs ≡ drop i ys → drop (i + 1) xs ≡ drop (i + 1) ys
-  back_more xs ys e = sym (drop-drop 1 i xs) ∙ ap (drop 1) e ∙ drop-drop 1 i ys
+  behind : {X : Type 0} (at k : ℕ) (xs ys : List X) → drop at xs ≡ drop at ys → drop (at + k) xs ≡ drop (at + k) ys
+  behind at k xs ys e = sym (drop-drop k at xs) ∙ ap (drop k) e ∙ drop-drop k at ys
 
-  bytes_back : (xs ys : List ℕ) (k : ℕ) → drop begin xs ≡ drop begin ys → drop (begin + k) xs ≡ drop (begin + k) ys
-  bytes_back xs ys k e = sym (drop-drop k begin xs) ∙ ap (drop k) e ∙ drop-drop k begin ys
-
-  -- a mark of the loan is passed over
-  pub sifted_out : m.loan ≡ n → Sifted old st n (i + 1) (begin + m.length) ends
-  sifted_out e = record {
+  -- marks of the loan are passed over
+  pub sifted_out : less_all (of_loan n) (take run.marks (drop passed.marks st.marks)) ≡ []
+      → ((ks : List ℕ) → rest_of n (take run.marks (drop passed.marks st.marks)) ks ≡ [])
+      → Sifted old st n (record { marks = passed.marks + run.marks; bytes = passed.bytes + run.bytes }) stays
+  sifted_out no_marks no_bytes = record {
     marks_front =
         s.marks_front
-        ∙ sym (ap (less_all (of_loan n)) one_more ∙ filter-append (λ x. not (of_loan n x)) (take i old.marks) (m ∷ [])
-        ∙ ap (λ ys. less_all (of_loan n) (take i old.marks) ++ ys) (cond-false _ _ _ gone) ∙ append-nil _);
-    marks_back = back_more st.marks old.marks s.marks_back;
+        ∙ sym (ap (less_all (of_loan n)) more ∙ filter-append (λ x. not (of_loan n x)) (take passed.marks old.marks) run_marks
+        ∙ ap (λ ys. less_all (of_loan n) (take passed.marks old.marks) ++ ys) (ap (less_all (of_loan n)) (sym run_is) ∙ no_marks) ∙ append-nil _);
+    marks_back = behind passed.marks run.marks st.marks old.marks s.marks_back;
     marks_low = omega (arith, s.marks_low);
+    marks_in = inside_old;
     marks_count = s.marks_count;
     bytes_front =
         s.bytes_front
-        ∙ sym (ap (λ ms. bytes_of (λ x. not (of_loan n x)) ms old.bytes) one_more ∙ bytes_of_append (λ x. not (of_loan n x)) (take i old.marks) (m ∷ []) old.bytes
-        ∙ ap (λ ys. bytes_of (λ x. not (of_loan n x)) (take i old.marks) old.bytes ++ ys) (cond-false _ _ _ gone) ∙ append-nil _);
-    bytes_back = bytes_back st.bytes old.bytes m.length s.bytes_back;
+        ∙ sym (ap (λ ms. rest_of n ms old.bytes) more ∙ rest_append n (take passed.marks old.marks) run_marks old.bytes
+        ∙ ap (λ ys. rest_of n (take passed.marks old.marks) old.bytes ++ ys) (ap (λ ms. rest_of n ms (drop (lengths (take passed.marks old.marks)) old.bytes)) (sym run_is) ∙ no_bytes _) ∙ append-nil _);
+    bytes_back = behind passed.bytes run.bytes st.bytes old.bytes s.bytes_back;
     bytes_low = omega (arith, s.bytes_low);
     bytes_count = s.bytes_count;
     begin = begin_more;
     most_marks = s.most_marks;
     most_bytes = s.most_bytes;
   }
-    where
-      gone : not (of_loan n m) ≡ false
-      gone = ap not (eq-eqb n m.loan (sym e))
 
-  -- a mark of another loan is moved down, and its bytes
-  pub sifted_in : m.loan ≢ n → (st' : Stock) → st' ≡ stock_slid st i begin m.length ends → (ends' : Ends) → ends'.marks ≡ ends.marks + 1
-      → ends'.bytes ≡ ends.bytes + m.length → Sifted old st' n (i + 1) (begin + m.length) ends'
-  sifted_in e st' is ends' one_mark its_bytes = record {
+  -- marks of other loans are moved down, and their bytes
+  pub sifted_in : some_of (of_loan n) (take run.marks (drop passed.marks st.marks)) ≡ false → (st' : Stock) → st' ≡ stock_slid st passed run stays
+      → Sifted old st' n (record { marks = passed.marks + run.marks; bytes = passed.bytes + run.bytes }) (record { marks = stays.marks + run.marks; bytes = stays.bytes + run.bytes })
+  sifted_in others st' is = record {
     marks_front =
-        ap (λ k. take k st'.marks) one_mark ∙ ap (λ (x : Stock). take (ends.marks + 1) x.marks) is
-        ∙ (slid_front st.marks i 1 ends.marks s.marks_low fits.mark
-        ∙ ap₂ (λ a b. a ++ b) s.marks_front (ap (take 1) (s.marks_back ∙ rest_is))
-        ∙ sym (ap (less_all (of_loan n)) one_more ∙ filter-append (λ x. not (of_loan n x)) (take i old.marks) (m ∷ [])
-        ∙ ap (λ ys. less_all (of_loan n) (take i old.marks) ++ ys) (cond-true _ _ _ stays)));
+        ap (λ (x : Stock). take (stays.marks + run.marks) x.marks) is
+        ∙ (slid_front st.marks passed.marks run.marks stays.marks s.marks_low can_slide.marks
+        ∙ ap₂ (λ a b. a ++ b) s.marks_front run_is
+        ∙ sym (ap (less_all (of_loan n)) more ∙ filter-append (λ x. not (of_loan n x)) (take passed.marks old.marks) run_marks
+        ∙ ap (λ ys. less_all (of_loan n) (take passed.marks old.marks) ++ ys) (less_all_none (of_loan n) run_marks (none_all (of_loan n) run_marks none))));
     marks_back =
-        ap (λ (x : Stock). drop (i + 1) x.marks) is
-        ∙ slid_behind st.marks i 1 ends.marks (i + 1) s.marks_low fits.mark (omega (arith, s.marks_low))
-        ∙ back_more st.marks old.marks s.marks_back;
-    marks_low = omega (arith, s.marks_low, one_mark);
-    marks_count = ap (λ (x : Stock). length x.marks) is ∙ length_slid st.marks i 1 ends.marks s.marks_low fits.mark ∙ s.marks_count;
+        ap (λ (x : Stock). drop (passed.marks + run.marks) x.marks) is
+        ∙ slid_behind st.marks passed.marks run.marks stays.marks (passed.marks + run.marks) s.marks_low can_slide.marks (omega (arith, s.marks_low))
+        ∙ behind passed.marks run.marks st.marks old.marks s.marks_back;
+    marks_low = omega (arith, s.marks_low);
+    marks_in = inside_old;
+    marks_count = ap (λ (x : Stock). length x.marks) is ∙ length_slid st.marks passed.marks run.marks stays.marks s.marks_low can_slide.marks ∙ s.marks_count;
     bytes_front =
-        ap (λ k. take k st'.bytes) its_bytes ∙ ap (λ (x : Stock). take (ends.bytes + m.length) x.bytes) is
-        ∙ (slid_front st.bytes begin m.length ends.bytes s.bytes_low fits.bytes
-        ∙ ap₂ (λ a b. a ++ b) s.bytes_front (ap (take m.length) (s.bytes_back ∙ ap (λ k. drop k old.bytes) s.begin))
-        ∙ sym (ap (λ ms. bytes_of (λ x. not (of_loan n x)) ms old.bytes) one_more ∙ bytes_of_append (λ x. not (of_loan n x)) (take i old.marks) (m ∷ []) old.bytes
-        ∙ ap (λ ys. bytes_of (λ x. not (of_loan n x)) (take i old.marks) old.bytes ++ ys) (cond-true _ _ _ stays ∙ append-nil _)));
+        ap (λ (x : Stock). take (stays.bytes + run.bytes) x.bytes) is
+        ∙ (slid_front st.bytes passed.bytes run.bytes stays.bytes s.bytes_low can_slide.bytes
+        ∙ ap₂ (λ a b. a ++ b) s.bytes_front (ap (take run.bytes) s.bytes_back)
+        ∙ sym (ap (λ ms. rest_of n ms old.bytes) more ∙ rest_append n (take passed.marks old.marks) run_marks old.bytes
+        ∙ ap (λ ys. rest_of n (take passed.marks old.marks) old.bytes ++ ys)
+        (ap (λ k. rest_of n run_marks (drop k old.bytes)) (sym s.begin) ∙ rest_others n run_marks (drop passed.bytes old.bytes) none
+        ∙ ap (λ k. take k (drop passed.bytes old.bytes)) (sym (bytes ∙ ap lengths run_is)))));
     bytes_back =
-        ap (λ (x : Stock). drop (begin + m.length) x.bytes) is
-        ∙ slid_behind st.bytes begin m.length ends.bytes (begin + m.length) s.bytes_low fits.bytes (omega (arith, s.bytes_low))
-        ∙ bytes_back st.bytes old.bytes m.length s.bytes_back;
-    bytes_low = omega (arith, s.bytes_low, its_bytes);
-    bytes_count = ap (λ (x : Stock). length x.bytes) is ∙ length_slid st.bytes begin m.length ends.bytes s.bytes_low fits.bytes ∙ s.bytes_count;
+        ap (λ (x : Stock). drop (passed.bytes + run.bytes) x.bytes) is
+        ∙ slid_behind st.bytes passed.bytes run.bytes stays.bytes (passed.bytes + run.bytes) s.bytes_low can_slide.bytes (omega (arith, s.bytes_low))
+        ∙ behind passed.bytes run.bytes st.bytes old.bytes s.bytes_back;
+    bytes_low = omega (arith, s.bytes_low);
+    bytes_count = ap (λ (x : Stock). length x.bytes) is ∙ length_slid st.bytes passed.bytes run.bytes stays.bytes s.bytes_low can_slide.bytes ∙ s.bytes_count;
     begin = begin_more;
     most_marks = ap (λ (x : Stock). x.most_marks) is ∙ s.most_marks;
     most_bytes = ap (λ (x : Stock). x.most_bytes) is ∙ s.most_bytes;
   }
     where
-      stays : not (of_loan n m) ≡ true
-      stays = ap not (ne_eqb n m.loan (λ f. e (sym f)))
+      none : some_of (of_loan n) run_marks ≡ false
+      none = ap (some_of (of_loan n)) (sym run_is) ∙ others
+
+-- the mark that is next
+one_long : (ms : List Mark) → 1 ≤ length ms → (get_or ms 0 no_mark).length ≡ lengths (take 1 ms)
+one_long [] h = absurd (omega arith)
+one_long (m ∷ ms) h = omega arith
+
+one_gone : (n : ℕ) (ms : List Mark) → (get_or ms 0 no_mark).loan ≡ n → less_all (of_loan n) (take 1 ms) ≡ []
+one_gone n [] e = refl
+one_gone n (m ∷ ms) e = cond-false _ _ _ (ap not (eq-eqb n m.loan (sym e)))
+
+one_rest : (n : ℕ) (ms : List Mark) → (get_or ms 0 no_mark).loan ≡ n → (ks : List ℕ) → rest_of n (take 1 ms) ks ≡ []
+one_rest n [] e ks = refl
+one_rest n (m ∷ ms) e ks = cond-false _ _ _ (ap not (eq-eqb n m.loan (sym e)))
+
+-- the marks behind what was passed, as they are read from the shelf
+module _ {old st : Stock} {n : ℕ} {passed stays : Amount} (s : Sifted old st n passed stays) (covered : lengths old.marks ≡ length old.bytes)
+    (ms : List Mark) (read : ms ≡ drop passed.marks st.marks) where
+  pub lengths_from : lengths ms ≤ lengths old.marks
+  lengths_from =
+      let split = lengths_append (take passed.marks old.marks) (drop passed.marks old.marks) in
+      omega (arith, ap lengths (read ∙ s.marks_back), split, ap lengths (take-append-drop passed.marks old.marks))
+
+  -- the next is the loan's
+  module _ (some : 1 ≤ length ms) where
+    abbrev next : Amount
+    next = record { marks = 1; bytes = (get_or ms 0 no_mark).length }
+
+    next_inside : 1 ≤ length (drop passed.marks st.marks)
+    next_inside = omega (arith, ap length read)
+
+    next_bytes : next.bytes ≡ lengths (take 1 (drop passed.marks st.marks))
+    next_bytes = one_long ms some ∙ ap (λ xs. lengths (take 1 xs)) read
+
+    pub next_slides : CanSlide st passed next stays
+    next_slides = can_slide s covered next next_inside next_bytes
+
+    pub next_gone : (get_or ms 0 no_mark).loan ≡ n → (p : Amount) → p ≡ record { marks = passed.marks + 1; bytes = passed.bytes + (get_or ms 0 no_mark).length }
+        → Sifted old st n p stays
+    next_gone e p is =
+        subst (λ x. Sifted old st n x stays) (sym is)
+        (sifted_out s covered next next_inside next_bytes (ap (λ xs. less_all (of_loan n) (take 1 xs)) (sym read) ∙ one_gone n ms e)
+        (λ ks. ap (λ xs. rest_of n (take 1 xs) ks) (sym read) ∙ one_rest n ms e ks))
+
+  -- a run of others comes next
+  module _ (run : Amount) (leads : Leads ms n run) where
+    run_inside : run.marks ≤ length (drop passed.marks st.marks)
+    run_inside = omega (arith, leads.inside, ap length read)
+
+    run_bytes : run.bytes ≡ lengths (take run.marks (drop passed.marks st.marks))
+    run_bytes = leads.bytes ∙ ap (λ xs. lengths (take run.marks xs)) read
+
+    pub run_slides : CanSlide st passed run stays
+    run_slides = can_slide s covered run run_inside run_bytes
+
+    pub run_moved : (st' : Stock) → st' ≡ stock_slid st passed run stays → (p q : Amount)
+        → p ≡ record { marks = passed.marks + run.marks; bytes = passed.bytes + run.bytes }
+        → q ≡ record { marks = stays.marks + run.marks; bytes = stays.bytes + run.bytes } → Sifted old st' n p q
+    run_moved st' slid_is p q p_is q_is =
+        subst₂ (λ x y. Sifted old st' n x y) (sym p_is) (sym q_is)
+        (sifted_in s covered run run_inside run_bytes (ap (λ xs. some_of (of_loan n) (take run.marks xs)) (sym read) ∙ leads.others) st' slid_is)
 
 -- what is left once all marks were passed, and both shelves cut off behind what stays
-pub sifted_all : (old : Stock) (v w : Shelves) (n i begin : ℕ) (ends : Ends) (r r' : Result ℕ Refusal) → Sifted old (stock_of v) n i begin ends
-    → length old.marks ≤ i → i ≤ length old.marks → lengths old.marks ≡ length old.bytes
-    → Truncate v.marks ends.marks r w.marks → Truncate v.bytes ends.bytes r' w.bytes → stock_of w ≡ stock_without old n
-sifted_all old v w n i begin ends r r' s past within covered marks bytes =
-    let all : take i old.marks ≡ old.marks = take_all i old.marks past in
-    let p = (truncate_done v.marks w.marks ends.marks r (omega (arith, s.marks_low, s.marks_count, counted v.marks)) marks).1 in
-    let q = (truncate_done v.bytes w.bytes ends.bytes r' (omega (arith, s.bytes_low, s.begin, ap lengths all, covered, s.bytes_count, counted v.bytes)) bytes).1 in
+pub sifted_all : (old : Stock) (v w : Shelves) (n : ℕ) (passed stays : Amount) (r r' : Result ℕ Refusal) → Sifted old (stock_of v) n passed stays
+    → length old.marks ≤ passed.marks → lengths old.marks ≡ length old.bytes
+    → Truncate v.marks stays.marks r w.marks → Truncate v.bytes stays.bytes r' w.bytes → stock_of w ≡ stock_without old n
+sifted_all old v w n passed stays r r' s past covered marks bytes =
+    let all : take passed.marks old.marks ≡ old.marks = take_all passed.marks old.marks past in
+    let p = (truncate_done v.marks w.marks stays.marks r (omega (arith, s.marks_low, s.marks_in, s.marks_count, counted v.marks)) marks).1 in
+    let q = (truncate_done v.bytes w.bytes stays.bytes r' (omega (arith, s.bytes_low, s.begin, ap lengths all, covered, s.bytes_count, counted v.bytes)) bytes).1 in
     let front = p.holds ∙ s.marks_front ∙ ap (less_all (of_loan n)) all in
-    let back = q.holds ∙ s.bytes_front ∙ ap (λ ms. bytes_of (λ m. not (of_loan n m)) ms old.bytes) all in
+    let back = q.holds ∙ s.bytes_front ∙ ap (λ ms. rest_of n ms old.bytes) all in
     λ k. record { marks = front k; bytes = back k; most_marks = (p.capacity ∙ s.most_marks) k; most_bytes = (q.capacity ∙ s.most_bytes) k }

@@ -1,5 +1,5 @@
 -- Lists and tests of their elements.
-use Rattle.std.specs.Prelude.{◌≡◌, Bool, true, false, cond, not, ◌⊎◌, List, [], ◌∷◌, filter}
+use Rattle.std.specs.Prelude.{Bool, true, false, cond, not, List, [], ◌∷◌, filter}
 
 module _ {A : Type 0} where
   -- the first of a list that passes a test, or what stands in for it

@@ -1,22 +1,32 @@
--- Moving a stroke's mark and bytes down on the shelves.
-use Rattle.std.specs.Prelude.{ℕ, ◌+◌, ◌≤◌, length}
+-- Moving strokes down on the shelves, over the gaps that a loan leaves.
+use Rattle.std.specs.Prelude.{◌≡◌, ℕ, ◌+◌, ◌<◌, ◌≤◌, true, false, List, length, take, get_or}
 use Rattle.shelf.specs.Calls.{slid_down}
-use Rattle.loans.specs.declared.ending.Ends.{Ends}
-use Rattle.loans.specs.Stocks.{Stock}
+use Rattle.loans.specs.declared.mark.Mark.{Mark}
+use Rattle.loans.specs.declared.sifting.Amount.{Amount}
+use Rattle.loans.specs.Lists.{some_of}
+use Rattle.loans.specs.Stocks.{Stock, of_loan, lengths}
+use Rattle.loans.specs.Taking.{no_mark}
 
--- the mark and its bytes stand on the shelves, and go down
-pub record CanSlide (k : Stock) (position begin n : ℕ) (to : Ends) : Type 0 where
-  pub mark : position + 1 ≤ length k.marks
-  pub bytes : begin + n ≤ length k.bytes
-  pub marks_down : to.marks ≤ position
-  pub bytes_down : to.bytes ≤ begin
+-- the marks begin with so many that are not the loan's, and one of the loan is next, or none
+pub record Leads (ms : List Mark) (n : ℕ) (run : Amount) : Type 0 where
+  pub inside : run.marks ≤ length ms
+  pub others : some_of (of_loan n) (take run.marks ms) ≡ false
+  pub bytes : run.bytes ≡ lengths (take run.marks ms)
+  pub next : run.marks < length ms → of_loan n (get_or ms run.marks no_mark) ≡ true
 
--- the mark and its bytes stand at the ends of what stays
-abbrev pub stock_slid : Stock → ℕ → ℕ → ℕ → Ends → Stock
-stock_slid k position begin n to =
+-- a run of strokes stands on the shelves behind so much, and goes down
+pub record CanSlide (k : Stock) (behind run stays : Amount) : Type 0 where
+  pub marks : behind.marks + run.marks ≤ length k.marks
+  pub bytes : behind.bytes + run.bytes ≤ length k.bytes
+  pub marks_down : stays.marks ≤ behind.marks
+  pub bytes_down : stays.bytes ≤ behind.bytes
+
+-- the run stands behind what stays
+abbrev pub stock_slid : Stock → Amount → Amount → Amount → Stock
+stock_slid k behind run stays =
     record {
-      marks = slid_down position 1 to.marks k.marks;
-      bytes = slid_down begin n to.bytes k.bytes;
+      marks = slid_down behind.marks run.marks stays.marks k.marks;
+      bytes = slid_down behind.bytes run.bytes stays.bytes k.bytes;
       most_marks = k.most_marks;
       most_bytes = k.most_bytes;
     }

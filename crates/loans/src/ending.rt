@@ -3,11 +3,10 @@ ghost use Rattle.std.specs.Prelude.{◌≡◌, ◌<◌, length};
 ghost use Rattle.loans.specs.Jobs.{book_of};
 ghost use Rattle.loans.specs.Writing.{kept_by, cancelled_by, ledger_ended};
 ghost use Rattle.loans.specs.Stocks.{stock_of, lengths, OursWhere};
-ghost use Rattle.loans.specs.Ending.{stock_without, restored, InFile};
+ghost use Rattle.loans.specs.Ending.{restored, InFile};
 ghost use Rattle.loans.specs.Rules.Deed.{keep, cancel};
 ghost use Rattle.loans.specs.Calls.{Called, CalledOnAny};
 ghost use Rattle.loans.specs.Handed.{HandedWhere};
-ghost use Rattle.loans.specs.Sifting.{CanSlide, stock_slid};
 
 use crate::job::Job;
 use crate::mark::{Mark, Shelves};
@@ -19,45 +18,6 @@ use refusal::Refusal;
 pub(crate) enum Ending {
     Kept,
     Cancelled,
-}
-
-// How far the shelves are filled with what stays, while a pass closes the gaps.
-#[derive(Clone, Copy)]
-pub(crate) struct Ends {
-    pub(crate) marks: usize,
-    pub(crate) bytes: usize,
-}
-
-impl Shelves<'_> {
-    // Moves the mark at a position and its bytes down to the ends of what stays.
-    fn slide_stroke(&mut self, position: usize, begin: usize, length: usize, to: Ends)
-        requires { CanSlide (stock_of self.old) position begin length to }
-        ensures { stock_of self.new ≡ stock_slid (stock_of self.old) position begin length to }
-    {
-        let _ = self.marks.slide(position, 1, to.marks);
-        let _ = self.bytes.slide(begin, length, to.bytes);
-    }
-
-    // Takes all marks of a loan and their bytes off the shelves, in one pass that moves what stays at most once. It goes by position,
-    // since an iterator would hold the shelf that each step changes.
-    fn drop_loan(&mut self, loan: u32)
-        requires { lengths (stock_of self.old).marks ≡ length (stock_of self.old).bytes }
-        ensures { stock_of self.new ≡ stock_without (stock_of self.old) loan }
-    {
-        let mut ends = Ends { marks: 0, bytes: 0 };
-        let mut begin = 0;
-        for position in 0..self.marks.count() {
-            let mark = self.marks.elements()[position];
-            if mark.loan != loan {
-                self.slide_stroke(position, begin, mark.length, ends);
-                ends.marks += 1;
-                ends.bytes += mark.length;
-            }
-            begin += mark.length;
-        }
-        let _ = self.marks.truncate(ends.marks);
-        let _ = self.bytes.truncate(ends.bytes);
-    }
 }
 
 // Puts back all that a loan's strokes covered, the newest first.

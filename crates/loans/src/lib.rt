@@ -14,6 +14,7 @@ mod running;
 mod scrapping;
 mod searching;
 mod shipping;
+mod sifting;
 mod testing;
 mod undoing;
 

@@ -1,55 +1,65 @@
-use Rattle.std.proofs.Common.{◌+◌, List, get_or, sym, ap, ◌∙◌, subst₂, arith}
+use Rattle.std.proofs.Common.{ap, length, arith}
+use Rattle.std.proofs.lemmas.List.{length-drop}
 use Rattle.shelf.proofs.Shelves.{counted, count_within, capacity_capped}
-use Rattle.loans.specs.declared.ending.Ends.{Ends}
-use Rattle.loans.specs.declared.mark.Mark.{Mark}
-use Rattle.loans.specs.declared.mark.Shelves.{Shelves}
 use Rattle.loans.specs.Stocks.{stock_of}
-use Rattle.loans.specs.Taking.{no_mark}
-use Rattle.loans.proofs.Sifted.{Sifted, stands, fits, sifted_out, sifted_in, sifted_all}
+use Rattle.loans.proofs.Sifted.{lengths_from, next_slides, next_gone, run_slides, run_moved, sifted_all}
 use Rattle.loans.proofs.mark.Shelves.drop_loan.Goals as goal
-use Rattle.loans.proofs.mark.Shelves.drop_loan.Goals.{then-mark-loan, else-mark-loan}
 
-pub slide_stroke-requires : goal.slide_stroke-requires
-slide_stroke-requires c =
-    fits
-    c.loop-position.invariant (omega (arith, c.loop-position-test.true, c.count-position-end.ensures.value, counted c.args.self.now.marks)) c.requires
-    (ap (λ (ms : List Mark). get_or ms c.loop-position.position no_mark) c.elements.ensures.value)
+pub and-passed-requires-clause-marks : goal.and-passed-requires-clause-marks
+and-passed-requires-clause-marks c =
+    let v = c.loop-passed.self.marks in
+    omega (arith, (next_slides c.loop-passed.invariant c.requires _ c.marks_behind.ensures c.in-len1-up.len_at_least).marks, counted v, count_within v, capacity_capped v)
 
-pub overflow_add-ends-then-mark-loan : goal.overflow_add-ends-then-mark-loan
-overflow_add-ends-then-mark-loan c =
-    let v = c.loop-position.self.bytes in
-    let inside = stands
-    c.loop-position.invariant (omega (arith, c.loop-position-test.true, c.count-position-end.ensures.value, counted c.args.self.now.marks)) c.requires
-    (ap (λ (ms : List Mark). get_or ms c.loop-position.position no_mark) c.elements.ensures.value) in
-    omega (arith, inside, c.loop-position.invariant.bytes_low, counted v, count_within v, capacity_capped v)
+pub and-passed-requires-clause-bytes : goal.and-passed-requires-clause-bytes
+and-passed-requires-clause-bytes c =
+    let v = c.loop-passed.self.bytes in
+    omega (arith, (next_slides c.loop-passed.invariant c.requires _ c.marks_behind.ensures c.in-len1-up.len_at_least).bytes, counted v, count_within v, capacity_capped v)
 
-pub overflow_add-begin : goal.overflow_add-begin
-overflow_add-begin c =
-    let v = c.loop-position.self.bytes in
-    let inside = stands
-    c.loop-position.invariant (omega (arith, c.loop-position-test.true, c.count-position-end.ensures.value, counted c.args.self.now.marks)) c.requires
-    (ap (λ (ms : List Mark). get_or ms c.loop-position.position no_mark) c.elements.ensures.value) in
-    omega (arith, inside, counted v, count_within v, capacity_capped v)
+pub loop-passed-preserved-then-mark-loan : goal.loop-passed-preserved-then-mark-loan
+loop-passed-preserved-then-mark-loan c =
+    next_gone c.loop-passed.invariant c.requires _ c.marks_behind.ensures c.in-len1-up.len_at_least c.if-mark-loan.true _ c.and-passed.ensures
 
-pub loop-position-preserved : goal.loop-position-preserved
-loop-position-preserved c = elim c.if-mark-loan.branch [
-  | then-mark-loan w ↦ sifted_in
-      c.loop-position.invariant (omega (arith, c.loop-position-test.true, c.count-position-end.ensures.value, counted c.args.self.now.marks)) c.requires
-      (ap (λ (ms : List Mark). get_or ms c.loop-position.position no_mark) c.elements.ensures.value)
-      w.if-mark-loan.true (stock_of c.if-mark-loan.self) (ap stock_of w.self-is ∙ w.slide_stroke.ensures) c.if-mark-loan.ends
-      (ap (λ (e : Ends). e.marks) w.ends-is) (ap (λ (e : Ends). e.bytes) w.ends-is)
-  | else-mark-loan w ↦ subst₂
-      (λ (x : Shelves) (e : Ends). Sifted (stock_of c.args.self.now) (stock_of x) c.args.loan (c.loop-position.position + 1) (c.loop-position.begin + (get_or c.elements.result.now c.loop-position.position no_mark).length) e)
-      (sym w.self-is) (sym w.ends-is)
-      (sifted_out
-      c.loop-position.invariant (omega (arith, c.loop-position-test.true, c.count-position-end.ensures.value, counted c.args.self.now.marks)) c.requires
-      (ap (λ (ms : List Mark). get_or ms c.loop-position.position no_mark) c.elements.ensures.value) w.if-mark-loan.false)
-]
+pub before_first-run-requires : goal.before_first-run-requires
+before_first-run-requires c =
+    let v = c.args.self.now.bytes in
+    omega (arith, lengths_from c.loop-passed.invariant c.requires _ c.marks_behind-else-mark-loan.ensures, c.requires, counted v, count_within v, capacity_capped v)
+
+pub slide_strokes-requires : goal.slide_strokes-requires
+slide_strokes-requires c = run_slides c.loop-passed.invariant c.requires _ c.marks_behind-else-mark-loan.ensures _ c.before_first-run.ensures
+
+pub and-stays-requires-clause-marks : goal.and-stays-requires-clause-marks
+and-stays-requires-clause-marks c =
+    let v = c.loop-passed.self.marks in
+    let slides = run_slides c.loop-passed.invariant c.requires _ c.marks_behind-else-mark-loan.ensures _ c.before_first-run.ensures in
+    omega (arith, slides.marks, slides.marks_down, counted v, count_within v, capacity_capped v)
+
+pub and-stays-requires-clause-bytes : goal.and-stays-requires-clause-bytes
+and-stays-requires-clause-bytes c =
+    let v = c.loop-passed.self.bytes in
+    let slides = run_slides c.loop-passed.invariant c.requires _ c.marks_behind-else-mark-loan.ensures _ c.before_first-run.ensures in
+    omega (arith, slides.bytes, slides.bytes_down, counted v, count_within v, capacity_capped v)
+
+pub and-passed-requires-else-mark-loan-clause-marks : goal.and-passed-requires-else-mark-loan-clause-marks
+and-passed-requires-else-mark-loan-clause-marks c =
+    let v = c.loop-passed.self.marks in
+    let slides = run_slides c.loop-passed.invariant c.requires _ c.marks_behind-else-mark-loan.ensures _ c.before_first-run.ensures in
+    omega (arith, slides.marks, counted v, count_within v, capacity_capped v)
+
+pub and-passed-requires-else-mark-loan-clause-bytes : goal.and-passed-requires-else-mark-loan-clause-bytes
+and-passed-requires-else-mark-loan-clause-bytes c =
+    let v = c.loop-passed.self.bytes in
+    let slides = run_slides c.loop-passed.invariant c.requires _ c.marks_behind-else-mark-loan.ensures _ c.before_first-run.ensures in
+    omega (arith, slides.bytes, counted v, count_within v, capacity_capped v)
+
+pub loop-passed-preserved : goal.loop-passed-preserved
+loop-passed-preserved c =
+    run_moved c.loop-passed.invariant c.requires _ c.marks_behind-else-mark-loan.ensures _ c.before_first-run.ensures _ c.slide_strokes.ensures _ _
+    c.and-passed-else-mark-loan.ensures c.and-stays.ensures
 
 pub returns : goal.returns
 returns c =
-    sifted_all (stock_of c.args.self.now) c.loop-position.self (record { marks = c.truncate.new.self; bytes = c.truncate-2.new.self }) c.args.loan
-    c.loop-position.position c.loop-position.begin c.loop-position.ends c.truncate.result c.truncate-2.result c.loop-position.invariant
-    (omega (arith, c.loop-position-test.false, c.count-position-end.ensures.value, counted c.args.self.now.marks))
-    (omega (arith, c.loop-position.auto.position-end, c.count-position-end.ensures.value, counted c.args.self.now.marks)) c.requires
-    c.truncate.ensures c.truncate-2.ensures
+    let past = ap length c.marks_behind.ensures in
+    let left = length-drop c.loop-passed.passed.marks (stock_of c.loop-passed.self).marks in
+    sifted_all (stock_of c.args.self.now) c.loop-passed.self (record { marks = c.truncate.new.self; bytes = c.truncate-2.new.self }) c.args.loan
+    c.loop-passed.passed c.loop-passed.stays c.truncate.result c.truncate-2.result c.loop-passed.invariant
+    (omega (arith, past, left, c.in_default.len_below, c.loop-passed.invariant.marks_count)) c.requires c.truncate.ensures c.truncate-2.ensures
