@@ -68,6 +68,9 @@ module _ {h : Header} {shape : Shape} {row_bytes rows : ℕ → ℕ → ℕ} {de
       let product = mul-le elements (total_of (take (count - 0) chain.levels)) 2048 1055531162664960 (omega arith) total in
       omega arith
 
+  pub walk_some : 1 ≤ elements
+  walk_some = let a = s.elements_is in let some = s.ok.some_elements in omega arith
+
   pub made : (n end : ℕ) → end ≡ begin + elements * total_of (take (count - 0) chain.levels)
       → TableOf h shape row_bytes rows n (record { levels = chain.levels; level_count = count; elements = elements; stride = chain.stride; pixel_begin = begin; pixel_end = end; length = n })
   made n end e =

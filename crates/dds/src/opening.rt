@@ -11,7 +11,7 @@ use crate::header::Header;
 use crate::layout::Layout;
 use crate::shape::Shape;
 use crate::table::{Sides, Table};
-use crate::walk::element_step;
+use crate::walk::level_step;
 use formats::{CodeTable, Family};
 use refusal::Refusal;
 
@@ -38,7 +38,7 @@ fn table_of<F: Family>(header: &Header, shape: Shape, length: u64, family: &F) -
     let chain = chain_of(family, sides, level_count);
     let pixel_begin = header.pixel_begin();
     let elements = shape.elements();
-    let pixel_end = element_step(
+    let pixel_end = level_step(
         &chain.levels[0..level_count as usize],
         elements,
         pixel_begin,

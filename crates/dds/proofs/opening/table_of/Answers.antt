@@ -1,7 +1,7 @@
 use Rattle.std.proofs.Common.{sym, subst, arith, rules}
 use Rattle.dds.specs.Tables.{InRange}
 use Rattle.dds.proofs.Shaped.{shaped}
-use Rattle.dds.proofs.Opened.{Steps, walk_sliced, walk_fits, made}
+use Rattle.dds.proofs.Opened.{Steps, walk_sliced, walk_some, walk_fits, made}
 use Rattle.dds.proofs.opening.table_of.Goals as goal
 
 pub chain_of-chain-requires : goal.chain_of-chain-requires
@@ -13,14 +13,14 @@ chain_of-chain-requires g c =
       omega arith,
     )
 
-pub slice_bounds-element_step-end : goal.slice_bounds-element_step-end
-slice_bounds-element_step-end g c =
+pub slice_bounds-level_step-end : goal.slice_bounds-level_step-end
+slice_bounds-level_step-end g c =
     let few = (shaped c.args.header.now c.args.shape c.requires).few_levels in
     let count = c.levels-level_count.ensures in
     search rules
 
-pub element_step-pixel_end-requires : goal.element_step-pixel_end-requires
-element_step-pixel_end-requires g c =
+pub level_step-pixel_end-requires : goal.level_step-pixel_end-requires
+level_step-pixel_end-requires g c =
     let steps : Steps c.args.header.now c.args.shape (g.F.Family.row_bytes c.args.family.now) (g.F.Family.rows c.args.family.now) _ _ _ _ _
     = record {
       ok = shaped c.args.header.now c.args.shape c.requires;
@@ -30,7 +30,7 @@ element_step-pixel_end-requires g c =
       elements_is = c.elements-elements.ensures;
       chain_is = c.chain_of-chain.ensures;
     } in
-    record { sliced = walk_sliced steps; fits = walk_fits steps (g.met.F.Family.bounded c.args.family.now) }
+    record { sliced = walk_sliced steps; some = walk_some steps; fits = walk_fits steps (g.met.F.Family.bounded c.args.family.now) }
 
 pub overflow_cast-result : goal.overflow_cast-result
 overflow_cast-result g c =
@@ -49,4 +49,4 @@ returns g c =
       elements_is = c.elements-elements.ensures;
       chain_is = c.chain_of-chain.ensures;
     })
-    c.args.length c.element_step-pixel_end.result c.element_step-pixel_end.ensures
+    c.args.length c.level_step-pixel_end.result c.level_step-pixel_end.ensures
