@@ -2,6 +2,7 @@
 use Rattle.std.proofs.Common.{◌≡◌, ℕ, ◌≤◌, List, Some, None, Ok, Err, Option, Result, sym, ap, ◌∙◌, subst, arith}
 use Rattle.std.proofs.lemmas.Bool.Decides.{nat_tests}
 use Rattle.refusal.specs.declared.Refusal.{Refusal}
+use Rattle.refusal.specs.declared.Refusal.TheVariants.{WrongEnd}
 use Rattle.dds.specs.declared.header.Header.{Header}
 use Rattle.dds.specs.declared.layout.Layout.{Layout}
 use Rattle.dds.specs.declared.shape.Shape.{Shape}
@@ -9,13 +10,19 @@ use Rattle.dds.specs.Headers.{header_of, header_read}
 use Rattle.dds.specs.Shapes.{shape_of, shape_read}
 use Rattle.dds.specs.Plans.{plan_of}
 use Rattle.dds.specs.Pieces.{Placed, FitsPlan}
-use Rattle.dds.specs.Layouts.{Fits, LaidOut, Opened, Turned, refusal_of, err_of, first_refusal, pieces_in, TableOf}
+use Rattle.dds.specs.Layouts.{Fits, Opened, Turned, refusal_of, err_of, first_refusal, pieces_in, TableOf}
 use Rattle.dds.proofs.Fitting.{fits_only}
 use Rattle.dds.proofs.Shaped.{shape_is}
 
 -- a header that was not refused is the one that stands in the head, and the file is short enough
 pub header_is : (head : List ℕ) (n : ℕ) (h : Header) → header_read head n ≡ Ok h → (h ≡ header_of head) × (n ≤ 1073741824)
 header_is head n h e = grind (arith, nat_tests)
+
+-- a header with a shape was laid out: its pieces end at the file's end, and the layout has them; or none fit
+abbrev pub LaidOut : Header → Shape → (ℕ → ℕ → ℕ) → (ℕ → ℕ → ℕ) → ℕ → Result Layout Refusal → Type 0
+LaidOut h shape row_bytes rows n (Ok layout) =
+    FitsPlan (plan_of h shape row_bytes rows) n (pieces_in layout) × TableOf h shape row_bytes rows n layout.table
+LaidOut h shape row_bytes rows n (Err e) = (e ≡ WrongEnd) × ((ps : List Placed) → FitsPlan (plan_of h shape row_bytes rows) n ps → ⊥)
 
 module _ (head : List ℕ) (n : ℕ) (row_bytes rows : ℕ → ℕ → ℕ) (h : Header) (shape : Shape) (e : header_read head n ≡ Ok h) (f : shape_read h ≡ Ok shape) where
   pub free : refusal_of head n ≡ None

@@ -1,12 +1,11 @@
 -- A file's table has the plan of its header.
-use Rattle.std.proofs.Common.{◌≡◌, ℕ, zero, suc, ◌+◌, ◌*◌, ◌<◌, ◌≤◌, ltb, List, [], ◌∷◌, ◌++◌, length, get_or, take, sym, refl, ap, ◌∙◌, subst, inl, inr, add-zero, add_assoc, zero-add, add-one, arith}
+use Rattle.std.proofs.Common.{◌≡◌, ℕ, zero, suc, ◌+◌, ◌*◌, ◌<◌, ◌≤◌, ltb, List, [], ◌∷◌, ◌++◌, length, get_or, take, take_all, sym, refl, ap, ◌∙◌, subst, inl, inr, add-zero, add_assoc, zero-add, add-one, arith}
 use Rattle.std.proofs.lemmas.List.{take_more}
 use Rattle.std.proofs.lemmas.Bool.{lt-ltb, cond-true}
 use Rattle.dds.specs.declared.header.Header.{Header}
 use Rattle.dds.specs.declared.level.Level.{Level}
 use Rattle.dds.specs.declared.piece.Piece.{Piece}
 use Rattle.dds.specs.declared.shape.Shape.{Shape}
-use Rattle.dds.specs.declared.table.Chain.{Chain}
 use Rattle.dds.specs.declared.table.Sides.{Sides}
 use Rattle.dds.specs.declared.table.Table.{Table}
 use Rattle.dds.specs.LevelEnds.{piece_length, total_of}
@@ -45,14 +44,12 @@ total_front xs (suc n) h =
     ap total_of m ∙ total_append (take n xs) (get_or xs n blank ∷ []) ∙ (λ i. e i + last i)
 
 -- the bytes of a chain's levels are those by the rules
-pub chain_total : (row_bytes rows : ℕ → ℕ → ℕ) (s : Sides) (count : ℕ) (c : Chain) → IsChain row_bytes rows s count c → count ≤ 15
-    → total_of (take count c.levels) ≡ begin_at (side_at s.depth) (size_at row_bytes rows s.width s.height) count
-chain_total row_bytes rows s count c is few =
-    let long = is.long in
-    total_front c.levels count (omega arith)
-    ∙ begin_agree (λ k. (get_or c.levels k blank).slices) (side_at s.depth) (λ k. piece_length (get_or c.levels k blank)) (size_at row_bytes rows s.width s.height) count
-    (λ k h. ap (λ (x : Level). x.slices) (is.level k (omega arith) ∙ cond-true (ltb k count) _ _ (lt-ltb k count h)))
-    (λ k h. ap piece_length (is.level k (omega arith) ∙ cond-true (ltb k count) _ _ (lt-ltb k count h)))
+pub chain_total : (row_bytes rows : ℕ → ℕ → ℕ) (s : Sides) (ls : List Level) (bytes : ℕ) → IsChain row_bytes rows s ls bytes
+    → total_of ls ≡ begin_at (side_at s.depth) (size_at row_bytes rows s.width s.height) (length ls)
+chain_total row_bytes rows s ls bytes is =
+    ap total_of (sym (take_all (length ls) ls (omega arith))) ∙ total_front ls (length ls) (omega arith)
+    ∙ begin_agree (λ k. (get_or ls k blank).slices) (side_at s.depth) (λ k. piece_length (get_or ls k blank)) (size_at row_bytes rows s.width s.height) (length ls)
+    (λ k h. ap (λ (x : Level). x.slices) (is.level k h)) (λ k h. ap piece_length (is.level k h))
 
 -- two plans that agree as far as their levels go have the same pieces and the same end
 record Agree (a b : Plan) : Type 0 where

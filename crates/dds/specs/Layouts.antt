@@ -35,12 +35,6 @@ pub record TableOf (h : Header) (shape : Shape) (row_bytes rows : ℕ → ℕ �
 abbrev pub pieces_in : Layout → List Placed
 pieces_in layout = pieces_of (plan_in layout.table)
 
--- a header with a shape was laid out: its pieces end at the file's end, and the layout has them; or none fit
-abbrev pub LaidOut : Header → Shape → (ℕ → ℕ → ℕ) → (ℕ → ℕ → ℕ) → ℕ → Result Layout Refusal → Type 0
-LaidOut h shape row_bytes rows n (Ok layout) =
-    FitsPlan (plan_of h shape row_bytes rows) n (pieces_in layout) × TableOf h shape row_bytes rows n layout.table
-LaidOut h shape row_bytes rows n (Err e) = (e ≡ WrongEnd) × ((ps : List Placed) → FitsPlan (plan_of h shape row_bytes rows) n ps → ⊥)
-
 -- a list of pieces fits a header, a family's two functions and a file's length: the header has a shape, and the list has
 -- exactly the pieces of that shape and its levels, in order, each of its length, from where pixel data begin to the file's end
 pub record Fits (h : Header) (row_bytes rows : ℕ → ℕ → ℕ) (n : ℕ) (ps : List Placed) : Type 0 where

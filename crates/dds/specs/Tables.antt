@@ -1,8 +1,7 @@
 -- The table of a file's levels.
-use Rattle.std.specs.Prelude.{◌≡◌, ℕ, ◌<◌, ◌≤◌, cond, length, nat_lt, slice_index_or}
+use Rattle.std.specs.Prelude.{◌≡◌, ℕ, ◌<◌, ◌≤◌, List, length, slice_index_or}
 use Rattle.formats.specs.declared.family.Extent.{Extent}
 use Rattle.dds.specs.declared.level.Level.{Level}
-use Rattle.dds.specs.declared.table.Chain.{Chain}
 use Rattle.dds.specs.declared.table.Sides.{Sides}
 use Rattle.dds.specs.Levels.{side_at}
 use Rattle.dds.specs.Plans.{size_at, begin_at}
@@ -32,11 +31,10 @@ level_at row_bytes rows s level =
       begin = begin_at (side_at s.depth) (size_at row_bytes rows s.width s.height) level;
     }
 
--- the first levels of a table are those of the rules, and the rest is blank
-pub record IsChain (row_bytes rows : ℕ → ℕ → ℕ) (s : Sides) (count : ℕ) (c : Chain) : Type 0 where
-  pub level : (k : ℕ) → k < 15 → slice_index_or c.levels k blank ≡ cond (nat_lt k count) (level_at row_bytes rows s k) blank
-  pub long : length c.levels ≡ 15
-  pub stride : c.stride ≡ begin_at (side_at s.depth) (size_at row_bytes rows s.width s.height) count
+-- the levels of an element, from its first on, are those of the rules, and so many bytes together
+pub record IsChain (row_bytes rows : ℕ → ℕ → ℕ) (s : Sides) (ls : List Level) (bytes' : ℕ) : Type 0 where
+  pub level : (k : ℕ) → k < length ls → slice_index_or ls k blank ≡ level_at row_bytes rows s k
+  pub bytes : bytes' ≡ begin_at (side_at s.depth) (size_at row_bytes rows s.width s.height) (length ls)
 
 -- a level with such an extent, such sides and such a begin
 abbrev pub level_with : Extent → Sides → ℕ → Level

@@ -1,10 +1,10 @@
 // Filling the table of a texture's levels.
-ghost use Rattle.std.specs.Prelude.{◌≡◌, ◌/◌, ◌≤◌, max};
+ghost use Rattle.std.specs.Prelude.{◌≡◌, ◌/◌, ◌≤◌, max, length};
 ghost use Rattle.dds.specs.Tables.{level_with, InRange, IsChain};
 ghost use Rattle.formats.specs.Extents.{extent_of};
 
 use crate::level::Level;
-use crate::table::{Chain, Sides};
+use crate::table::Sides;
 use formats::Family;
 
 impl Sides {
@@ -35,21 +35,20 @@ fn level_of<F: Family>(family: &F, sides: Sides, begin: u64) -> Level
     }
 }
 
-// The levels of an element whose first has these sides. The family is asked once for each level, at the level's own sides.
-pub(crate) fn chain_of<F: Family>(family: &F, first: Sides, count: u32) -> Chain
-    requires { (InRange first) × (count ≤ 15) }
-    ensures { IsChain (F.row_bytes family.now) (F.rows family.now) first count result }
+// Fills the levels of an element, from the sides of the first, and answers how many bytes they take. The family is asked once for each
+// level, at the level's own sides.
+pub(crate) fn fill_levels<F: Family>(family: &F, first: Sides, levels: &mut [Level]) -> u64
+    requires sides { InRange first }
+    requires few { length levels.old ≤ 15 }
+    ensures count { length levels.new ≡ length levels.old }
+    ensures chain { IsChain (F.row_bytes family.now) (F.rows family.now) first levels.new result }
 {
-    let mut levels = [Level::default(); 15];
     let mut sides = first;
     let mut begin = 0;
-    for level in &mut levels[..count as usize] {
+    for level in levels {
         *level = level_of(family, sides, begin);
         begin = level.end();
         sides = sides.halved();
     }
-    Chain {
-        levels,
-        stride: begin,
-    }
+    begin
 }

@@ -2,13 +2,14 @@
 ghost use Rattle.std.specs.Prelude.{◌≡◌, ◌≤◌, Ok};
 ghost use Rattle.dds.specs.Headers.{header_read};
 ghost use Rattle.dds.specs.Shapes.{shape_read};
-ghost use Rattle.dds.specs.Layouts.{TableOf, LaidOut, Opened, OpenedBy};
+ghost use Rattle.dds.specs.Layouts.{TableOf, Opened, OpenedBy};
 ghost use Rattle.dds.specs.Plans.{pixel_begin};
 
-use crate::filling::chain_of;
+use crate::filling::fill_levels;
 use crate::head::FileHead;
 use crate::header::Header;
 use crate::layout::Layout;
+use crate::level::Level;
 use crate::shape::Shape;
 use crate::table::{Sides, Table};
 use crate::walk::level_step;
@@ -35,40 +36,21 @@ fn table_of<F: Family>(header: &Header, shape: Shape, length: u64, family: &F) -
         depth: shape.depth(),
     };
     let level_count = header.levels();
-    let chain = chain_of(family, sides, level_count);
+    let mut levels = [Level::default(); 15];
+    let filled = &mut levels[..level_count as usize];
+    let stride = fill_levels(family, sides, filled);
     let pixel_begin = header.pixel_begin();
     let elements = shape.elements();
-    let pixel_end = level_step(
-        &chain.levels[0..level_count as usize],
-        elements,
-        pixel_begin,
-    );
+    let pixel_end = level_step(filled, elements, pixel_begin);
     Table {
-        levels: chain.levels,
+        levels,
         level_count,
         elements: elements as u32,
-        stride: chain.stride,
+        stride,
         pixel_begin,
         pixel_end,
         length,
     }
-}
-
-// Lays out a file with this header and shape. Refuses with WrongEnd.
-fn lay_out<F: Family>(
-    header: &Header,
-    shape: Shape,
-    length: u64,
-    family: &F,
-) -> Result<Layout, Refusal>
-    requires { (shape_read header.now ≡ Ok shape) × (length ≤ 1073741824) }
-    ensures { LaidOut header.now shape (F.row_bytes family.now) (F.rows family.now) length result }
-{
-    let table = table_of(header, shape, length, family);
-    if table.pixel_end != length {
-        return Err(Refusal::WrongEnd);
-    }
-    Ok(Layout { table })
 }
 
 impl Layout {
@@ -78,7 +60,11 @@ impl Layout {
         ensures { Opened head.entry.bytes.now head.entry.length (F.row_bytes family.now) (F.rows family.now) result }
     {
         let shape = header.read_shape()?;
-        lay_out(header, shape, head.length, family)
+        let table = table_of(header, shape, head.length, family);
+        if table.pixel_end != head.length {
+            return Err(Refusal::WrongEnd);
+        }
+        Ok(Layout { table })
     }
 
     // The layout of a file for any family, from the file's head and its length. No format table is read. Refuses with

@@ -9,14 +9,6 @@ pub struct Sides {
     pub depth: u32,
 }
 
-// The levels of an element, and its bytes, which are those of all its levels.
-#[derive(Clone, Copy)]
-pub struct Chain {
-    // as those of a table
-    pub levels: [Level; 15],
-    pub stride: u64,
-}
-
 // Where all pieces of a file stand. The first `level_count` entries of `levels` are the levels of every element; the others
 // are blank. An element's bytes are `stride`; pixel data run from `pixel_begin` to `pixel_end`; the file has `length` bytes.
 #[derive(Clone, Copy)]

@@ -1,36 +1,60 @@
-use Rattle.std.proofs.Common.{sym, subst, arith, rules}
+use Rattle.std.proofs.Common.{sym, subst, arith, rules, replicate}
+use Rattle.std.proofs.lemmas.List.{length-take-le}
 use Rattle.dds.specs.Tables.{InRange}
 use Rattle.dds.proofs.Shaped.{shaped}
-use Rattle.dds.proofs.Opened.{Steps, walk_sliced, walk_some, walk_fits, made}
+use Rattle.dds.proofs.Opened.{Steps, blank_is, filled_long, walk_sliced, walk_fits, made}
 use Rattle.dds.proofs.opening.table_of.Goals as goal
 
-pub chain_of-chain-requires : goal.chain_of-chain-requires
-chain_of-chain-requires g c =
-    let s = shaped c.args.header.now c.args.shape c.requires in
-    let few = s.few_levels in
-    let count = c.levels-level_count.ensures in (
-      subst (λ d. InRange (record { width = c.args.header.now.width; height = c.args.header.now.height; depth = d })) (sym c.depth.ensures) s.sides,
-      omega arith,
-    )
-
-pub slice_bounds-level_step-end : goal.slice_bounds-level_step-end
-slice_bounds-level_step-end g c =
+pub slice_bounds-levels-end : goal.slice_bounds-levels-end
+slice_bounds-levels-end g c =
     let few = (shaped c.args.header.now c.args.shape c.requires).few_levels in
     let count = c.levels-level_count.ensures in
-    search rules
+    omega arith
 
-pub level_step-pixel_end-requires : goal.level_step-pixel_end-requires
-level_step-pixel_end-requires g c =
-    let steps : Steps c.args.header.now c.args.shape (g.F.Family.row_bytes c.args.family.now) (g.F.Family.rows c.args.family.now) _ _ _ _ _
+pub slice_bounds-filled-end : goal.slice_bounds-filled-end
+slice_bounds-filled-end g c =
+    let few = (shaped c.args.header.now c.args.shape c.requires).few_levels in
+    let count = c.levels-level_count.ensures in
+    sym (length-take-le _ (replicate 15 c.default-levels.result) (omega arith))
+
+pub fill_levels-stride-requires-clause-sides : goal.fill_levels-stride-requires-clause-sides
+fill_levels-stride-requires-clause-sides g c =
+    subst (λ d. InRange (record { width = c.args.header.now.width; height = c.args.header.now.height; depth = d })) (sym c.depth.ensures)
+    (shaped c.args.header.now c.args.shape c.requires).sides
+
+pub level_step-pixel_end-requires-clause-sliced : goal.level_step-pixel_end-requires-clause-sliced
+level_step-pixel_end-requires-clause-sliced g c =
+    let steps : Steps c.args.header.now c.args.shape (g.F.Family.row_bytes c.args.family.now) (g.F.Family.rows c.args.family.now) _ _ _ _ _ _ _
     = record {
       ok = shaped c.args.header.now c.args.shape c.requires;
       depth_is = c.depth.ensures;
       count_is = c.levels-level_count.ensures;
       begin_is = c.pixel_begin-pixel_begin.ensures;
       elements_is = c.elements-elements.ensures;
-      chain_is = c.chain_of-chain.ensures;
+      blank_is = blank_is _ c.default-levels.ensures;
+      long = filled_long c.default-levels.result _ (shaped c.args.header.now c.args.shape c.requires) c.levels-level_count.ensures c.fill_levels-stride.ensures.count;
+      chain_is = c.fill_levels-stride.ensures.chain;
     } in
-    record { sliced = walk_sliced steps; some = walk_some steps; fits = walk_fits steps (g.met.F.Family.bounded c.args.family.now) }
+    walk_sliced steps
+
+pub level_step-pixel_end-requires-clause-some : goal.level_step-pixel_end-requires-clause-some
+level_step-pixel_end-requires-clause-some g c =
+    omega (arith, (shaped c.args.header.now c.args.shape c.requires).some_elements, c.elements-elements.ensures)
+
+pub level_step-pixel_end-requires-clause-fits : goal.level_step-pixel_end-requires-clause-fits
+level_step-pixel_end-requires-clause-fits g c =
+    let steps : Steps c.args.header.now c.args.shape (g.F.Family.row_bytes c.args.family.now) (g.F.Family.rows c.args.family.now) _ _ _ _ _ _ _
+    = record {
+      ok = shaped c.args.header.now c.args.shape c.requires;
+      depth_is = c.depth.ensures;
+      count_is = c.levels-level_count.ensures;
+      begin_is = c.pixel_begin-pixel_begin.ensures;
+      elements_is = c.elements-elements.ensures;
+      blank_is = blank_is _ c.default-levels.ensures;
+      long = filled_long c.default-levels.result _ (shaped c.args.header.now c.args.shape c.requires) c.levels-level_count.ensures c.fill_levels-stride.ensures.count;
+      chain_is = c.fill_levels-stride.ensures.chain;
+    } in
+    walk_fits steps (g.met.F.Family.bounded c.args.family.now)
 
 pub overflow_cast-result : goal.overflow_cast-result
 overflow_cast-result g c =
@@ -40,13 +64,15 @@ overflow_cast-result g c =
 
 pub returns : goal.returns
 returns g c =
-    made
-    (record {
+    let steps : Steps c.args.header.now c.args.shape (g.F.Family.row_bytes c.args.family.now) (g.F.Family.rows c.args.family.now) _ _ _ _ _ _ _
+    = record {
       ok = shaped c.args.header.now c.args.shape c.requires;
       depth_is = c.depth.ensures;
       count_is = c.levels-level_count.ensures;
       begin_is = c.pixel_begin-pixel_begin.ensures;
       elements_is = c.elements-elements.ensures;
-      chain_is = c.chain_of-chain.ensures;
-    })
-    c.args.length c.level_step-pixel_end.result c.level_step-pixel_end.ensures
+      blank_is = blank_is _ c.default-levels.ensures;
+      long = filled_long c.default-levels.result _ (shaped c.args.header.now c.args.shape c.requires) c.levels-level_count.ensures c.fill_levels-stride.ensures.count;
+      chain_is = c.fill_levels-stride.ensures.chain;
+    } in
+    made steps c.args.length c.level_step-pixel_end.result c.level_step-pixel_end.ensures

@@ -3,7 +3,7 @@ use Rattle.dds.specs.Levels.{side_at}
 use Rattle.dds.specs.Plans.{size_at, begin_at}
 use Rattle.dds.specs.Tables.{level_at, blank}
 use Rattle.dds.proofs.Begins.{sides_at}
-use Rattle.dds.proofs.filling.chain_of.Given as goal
+use Rattle.dds.proofs.filling.fill_levels.Given as goal
 
 -- the first levels stand in the table, and the next begins behind them
 abbrev pub invariant-loop-level : goal.invariant-loop-level

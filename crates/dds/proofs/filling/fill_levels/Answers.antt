@@ -1,5 +1,4 @@
-use Rattle.std.proofs.Common.{◌≡◌, ℕ, ◌<◌, replicate, drop, suc, ap, ◌∙◌, add-one, arith}
-use Rattle.std.proofs.lemmas.List.{length-take-le, length-append, length-drop}
+use Rattle.std.proofs.Common.{◌≡◌, ℕ, ◌<◌, suc, length, ap, ◌∙◌, add-one, arith}
 use Rattle.formats.specs.Extents.{extent_of}
 use Rattle.dds.specs.declared.table.Sides.{Sides}
 use Rattle.dds.specs.Levels.{side_at}
@@ -7,8 +6,8 @@ use Rattle.dds.specs.Plans.{size_at, begin_at}
 use Rattle.dds.specs.LevelEnds.{level_end}
 use Rattle.dds.specs.Tables.{InRange, level_at, level_with, blank}
 use Rattle.dds.proofs.Begins.{sides_at, level_is, begin_few, sides_step}
-use Rattle.dds.proofs.Written.{one_more, written}
-use Rattle.dds.proofs.filling.chain_of.Goals as goal
+use Rattle.dds.proofs.Written.{one_more}
+use Rattle.dds.proofs.filling.fill_levels.Goals as goal
 
 -- the level that a turn writes is the level by the rules
 wrote : (row_bytes rows : ℕ → ℕ → ℕ) (first sides : Sides) (start k : ℕ) → InRange first → sides ≡ sides_at first k
@@ -23,38 +22,30 @@ pub end-begin-requires : goal.end-begin-requires
 end-begin-requires g c =
     let e = c.level_of.ensures
     ∙ wrote (g.F.Family.row_bytes c.args.family.now) (g.F.Family.rows c.args.family.now) c.args.first c.loop-level.sides c.loop-level.begin c.loop-level.level-index
-    c.requires.0 c.loop-level.invariant.0 c.loop-level.invariant.1 in
-    let f = begin_few (g.F.Family.row_bytes c.args.family.now) (g.F.Family.rows c.args.family.now) (g.met.F.Family.bounded c.args.family.now) c.args.first c.requires.0 (suc c.loop-level.level-index) in
+    c.requires.sides c.loop-level.invariant.0 c.loop-level.invariant.1 in
+    let f = begin_few (g.F.Family.row_bytes c.args.family.now) (g.F.Family.rows c.args.family.now) (g.met.F.Family.bounded c.args.family.now) c.args.first c.requires.sides (suc c.loop-level.level-index) in
     let l = ap level_end e in
-    let long = length-take-le c.args.count (replicate 15 c.default-levels.result) c.requires.1 in
-    let few : c.loop-level.level-index < 15 = omega arith in
+    let few : c.loop-level.level-index < 15 = omega (arith, c.loop-level-test.true, c.requires.few) in
     omega arith
 
 pub loop-level-preserved : goal.loop-level-preserved
 loop-level-preserved g c =
     let e = c.level_of.ensures
     ∙ wrote (g.F.Family.row_bytes c.args.family.now) (g.F.Family.rows c.args.family.now) c.args.first c.loop-level.sides c.loop-level.begin c.loop-level.level-index
-    c.requires.0 c.loop-level.invariant.0 c.loop-level.invariant.1 in (
+    c.requires.sides c.loop-level.invariant.0 c.loop-level.invariant.1 in (
       c.halved-sides.ensures ∙ sides_step c.args.first c.loop-level.sides c.loop-level.level-index c.loop-level.invariant.0,
       rw add-one (c.end-begin.ensures ∙ ap level_end e),
       one_more (level_at (g.F.Family.row_bytes c.args.family.now) (g.F.Family.rows c.args.family.now) c.args.first) blank
-          c.level_of.result c.loop-level.level-items c.loop-level.level-index (omega arith) e c.loop-level.invariant.2,
+          c.level_of.result c.loop-level.level-items c.loop-level.level-index (omega (arith, c.loop-level-test.true, c.loop-level.auto.level-items)) e c.loop-level.invariant.2,
     )
 
-pub returns : goal.returns
-returns g c =
-    let d = c.default-levels.ensures in
-    let long = length-take-le c.args.count (replicate 15 c.default-levels.result) c.requires.1 in
-    let blank_is : c.default-levels.result ≡ blank
-    = λ i. record { width = d.0 i; height = d.1.0 i; slices = d.1.1.0 i; row_bytes = d.1.1.1.0 i; rows = d.1.1.1.1.0 i; begin = d.1.1.1.1.1 i } in
+pub returns-clause-chain : goal.returns-clause-chain
+returns-clause-chain g c =
+    let all : c.loop-level.level-index ≡ length c.loop-level.level-items =
+    omega (arith, c.loop-level-test.false, c.loop-level.auto.level-items, c.loop-level.auto.level-index-end) in
     record {
-      level = written (level_at (g.F.Family.row_bytes c.args.family.now) (g.F.Family.rows c.args.family.now) c.args.first) blank
-          c.default-levels.result 15 c.args.count c.loop-level.level-items blank_is (omega arith) (λ j h. c.loop-level.invariant.2 j (omega arith));
-      long =
-          length-append c.loop-level.level-items (drop c.args.count (replicate 15 c.default-levels.result))
-          ∙ (let rest = length-drop c.args.count (replicate 15 c.default-levels.result) in omega arith);
-      stride =
+      level = λ k h. c.loop-level.invariant.2 k (omega arith);
+      bytes =
           c.loop-level.invariant.1
-          ∙ ap (begin_at (side_at c.args.first.depth) (size_at (g.F.Family.row_bytes c.args.family.now) (g.F.Family.rows c.args.family.now) c.args.first.width c.args.first.height))
-          (omega arith);
+          ∙ ap (begin_at (side_at c.args.first.depth) (size_at (g.F.Family.row_bytes c.args.family.now) (g.F.Family.rows c.args.family.now) c.args.first.width c.args.first.height)) all;
     }
