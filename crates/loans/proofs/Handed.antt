@@ -1,6 +1,6 @@
 -- Loans that were handed in stay so.
-use Rattle.std.proofs.Common.{◌≡◌, ℕ, suc, ◌+◌, ◌<◌, ◌≤◌, Bool, true, false, cond, not, eqb, List, [], ◌∷◌, map, length, get_or, Some, None, Ok, Err, filter, Option, Result, sym, refl, ap, ◌∙◌, subst, arith}
-use Rattle.std.specs.List.{AllByRecursion}
+use Rattle.std.proofs.Common.{◌≡◌, ℕ, suc, ◌+◌, ◌<◌, ◌≤◌, Bool, true, false, cond, not, eqb, List, [], ◌∷◌, map, length, get_or, Some, None, Ok, Err, filter, Option, Result, sym, refl, ap, ◌∙◌, subst, arith, ◌||◌}
+use Rattle.std.specs.List.{list_any, AllByRecursion}
 use Rattle.std.proofs.lemmas.Bool.{true≢false, false≢true, not-false, eqb-true, eq-eqb, ne_eqb}
 use Rattle.refusal.specs.declared.Refusal.{Refusal}
 use Rattle.refusal.specs.declared.Refusal.TheVariants.{OtherLength, LoanNotOut}
@@ -8,7 +8,7 @@ use Rattle.loans.specs.declared.job.Job.{Job}
 use Rattle.loans.specs.declared.ledger.Loan.{Loan}
 use Rattle.loans.specs.declared.mark.Mark.{Mark}
 use Rattle.loans.specs.declared.mark.Shelves.{Shelves}
-use Rattle.loans.specs.Lists.{some_of, less_all}
+use Rattle.loans.specs.Lists.{less_all}
 use Rattle.loans.specs.Books.{no_loan}
 use Rattle.loans.specs.Jobs.{Book, book_of}
 use Rattle.loans.specs.Stocks.{Stock, stock_of, is_number, is_out, the_loan}
@@ -27,12 +27,12 @@ pub record Gone (n : ℕ) (b : Book) : Type 0 where
   pub not_out : is_out b.outs n ≡ false
   pub given : n ≤ b.granted
 
-some_kept : {A : Type 0} (p q : A → Bool) (xs : List A) → some_of p xs ≡ false → some_of p (filter q xs) ≡ false
+some_kept : {A : Type 0} (p q : A → Bool) (xs : List A) → list_any p xs ≡ false → list_any p (filter q xs) ≡ false
 some_kept p q [] h = refl
 some_kept p q (x ∷ xs) h = go (p x) refl (q x) h (some_kept p q xs)
   where
-    go : (b : Bool) → p x ≡ b → (c : Bool) → cond b true (some_of p xs) ≡ false → (some_of p xs ≡ false → some_of p (filter q xs) ≡ false)
-        → some_of p (cond c (x ∷ filter q xs) (filter q xs)) ≡ false
+    go : (b : Bool) → p x ≡ b → (c : Bool) → (b || list_any p xs) ≡ false → (list_any p xs ≡ false → list_any p (filter q xs) ≡ false)
+        → list_any p (cond c (x ∷ filter q xs) (filter q xs)) ≡ false
     go true e c h' later = absurd (true≢false h')
     go false e true h' later = rw e (later h')
     go false e false h' later = later h'

@@ -1,5 +1,6 @@
 -- What laying a stroke and taking one back answer and leave.
 use Rattle.std.specs.Prelude.{◌≡◌, ℕ, ◌+◌, ◌*◌, ◌≤◌, Bool, true, cond, not, ◌&&◌, ◌||◌, List, [], ◌∷◌, ◌++◌, map, length, take, drop, Some, None, Ok, Err, Option, Result, ◌==◌, nat_le, nat_lt, slice_index_or}
+use Rattle.std.specs.List.{list_any}
 use Rattle.std.proofs.Math.Seq.{paste}
 use Rattle.refusal.specs.declared.Refusal.{Refusal}
 use Rattle.refusal.specs.declared.Refusal.TheVariants.{OtherLength, LoanNotOut, OtherBorrower, ForeignShelves, OutsideRow, NoSpace, NothingToUndo}
@@ -9,7 +10,6 @@ use Rattle.loans.specs.declared.job.Job.{Job}
 use Rattle.loans.specs.declared.ledger.Loan.{Loan}
 use Rattle.loans.specs.declared.mark.Mark.{Mark}
 use Rattle.loans.specs.declared.mark.Shelves.{Shelves}
-use Rattle.loans.specs.Lists.{some_of}
 use Rattle.loans.specs.Books.{no_loan, loan_with}
 use Rattle.loans.specs.Jobs.{Book, book_of}
 use Rattle.loans.specs.declared.painting.Spot.{Spot}
@@ -136,7 +136,7 @@ painted s p =
 
 -- a mark is the newest of its loan where none behind it is of that loan
 abbrev pub is_newest : ℕ → Mark → List Mark → Bool
-is_newest n m behind = of_loan n m && not (some_of (of_loan n) behind)
+is_newest n m behind = of_loan n m && not (list_any (of_loan n) behind)
 
 -- the marks without the newest of a loan
 abbrev pub marks_less : ℕ → List Mark → List Mark

@@ -1,12 +1,12 @@
 -- Where the newest stroke of a loan stands on the shelves, and what is left without it.
 use Rattle.std.specs.Prelude.{◌≡◌, ℕ, ◌+◌, ◌<◌, ◌≤◌, true, false, List, length, get_or, take, drop, Some, None, Ok, Err, Option, Result, slice_index_or}
+use Rattle.std.specs.List.{list_any}
 use Rattle.std.proofs.Math.Seq.{paste}
 use Rattle.refusal.specs.declared.Refusal.{Refusal}
 use Rattle.shelf.specs.Calls.{without_run}
 use Rattle.loans.specs.declared.mark.Mark.{Mark}
 use Rattle.loans.specs.declared.undoing.Newest.{Newest}
 use Rattle.loans.specs.declared.undoing.Last.{Last}
-use Rattle.loans.specs.Lists.{some_of}
 use Rattle.loans.specs.Books.{no_loan}
 use Rattle.loans.specs.Stocks.{Stock, of_loan, marks_of, lengths}
 use Rattle.loans.specs.Finding.{StandsAt}
@@ -20,7 +20,7 @@ no_mark = record { loan = 0; place = 0; length = 0 }
 pub record NewestAt (ms : List Mark) (n k begin' : ℕ) : Type 0 where
   pub inside : k < length ms
   pub loan : of_loan n (slice_index_or ms k no_mark) ≡ true
-  pub last : some_of (of_loan n) (drop (k + 1) ms) ≡ false
+  pub last : list_any (of_loan n) (drop (k + 1) ms) ≡ false
   pub begin : begin' ≡ lengths (take k ms)
 
 -- what looking for a loan's newest mark finds: where it stands, or that the loan has none

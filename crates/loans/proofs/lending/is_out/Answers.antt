@@ -1,10 +1,8 @@
-use Rattle.std.proofs.Common.{◌≡◌, ◌||◌, List, [], ◌∷◌, ◌∙◌, refl, ap, rules, tests}
-use Rattle.std.specs.List.{list_any}
+use Rattle.std.proofs.Common.{rules, tests}
 use Rattle.std.proofs.lemmas.Iterator.{YieldsList-from_slice}
 use Rattle.std.proofs.lemmas.Iterator.Search.{any_from_yields_List}
-use Rattle.dds.specs.declared.piece.Piece.{Piece}
 use Rattle.loans.specs.declared.ledger.Loan.{Loan}
-use Rattle.loans.specs.Lending.{same_piece, piece_is_out}
+use Rattle.loans.specs.Lending.{same_piece}
 use Rattle.loans.proofs.lending.is_out.Goals as goal
 
 pub returns : goal.returns
