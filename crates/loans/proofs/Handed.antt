@@ -17,7 +17,7 @@ use Rattle.loans.specs.Ending.{keep_refusal, kept_book, cancel_refusal, cancelle
 use Rattle.loans.specs.Rules.{Deed, call_refusal, carried_out, left, after}
 use Rattle.loans.specs.Rules.Deed.{lend, paint, undo, keep, cancel}
 use Rattle.loans.specs.Calls.{Called}
-use Rattle.loans.specs.Handed.{Step, state_with, later_book, is_on, RefusedAsNotOut, HandedIn, HandedWhere, HandedBy}
+use Rattle.loans.specs.Handed.{LaterCall, state_with, later_book, is_on, RefusedAsNotOut, HandedIn, HandedWhere, HandedBy}
 use Rattle.loans.proofs.Counting.{out_count, out_at}
 use Rattle.loans.proofs.Passing.{passed}
 use Rattle.loans.proofs.Listed.{some_of_map, some_of_push, some_of_none, none_less_all, first_among, all_among}
@@ -62,7 +62,7 @@ gone_carried n s g (cancel m) = record { not_out = without_out n _ s.book.outs m
 gone_after : (n : ℕ) (s : State) → Gone n s.book → (d : Deed) → Gone n (after s d).book
 gone_after n s g d = left_either (λ (x : State). Gone n x.book) (call_refusal s d) s (carried_out s d) g (gone_carried n s g d)
 
-gone_later : (n : ℕ) (xs : List Step) (b : Book) → Gone n b → Gone n (later_book b xs)
+gone_later : (n : ℕ) (xs : List LaterCall) (b : Book) → Gone n b → Gone n (later_book b xs)
 gone_later n [] b g = g
 gone_later n (x ∷ xs) b g = gone_later n xs _ (gone_after n (state_with b x.file x.stock) g x.deed)
 

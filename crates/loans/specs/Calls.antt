@@ -7,10 +7,10 @@ use Rattle.loans.specs.Strokes.{State, state_of}
 use Rattle.loans.specs.Rules.{Deed, call_refusal, carried_out, number_for}
 
 -- a call that is carried out: no refusal applies, and answer and state are the rule's
-pub record Carried (d : Deed) (before : State) (n : ℕ) (after : State) : Type 0 where
-  pub none : call_refusal before d ≡ None
-  pub answer : n ≡ number_for (carried_out before d) d
-  pub state : after ≡ carried_out before d
+pub record Carried (d : Deed) (s : State) (n : ℕ) (t : State) : Type 0 where
+  pub none : call_refusal s d ≡ None
+  pub answer : n ≡ number_for (carried_out s d) d
+  pub state : t ≡ carried_out s d
 
 -- a call on a job, its file and its shelves; a refusal changes nothing
 abbrev pub Called : Deed → Job → List ℕ → Shelves → Result ℕ Refusal → Job → List ℕ → Shelves → Type 0

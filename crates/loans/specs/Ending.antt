@@ -42,7 +42,7 @@ book_without b n kept' cancelled' =
       bytes = b.bytes;
     }
 
--- the first refusal that applies; a keep asks nothing of the file
+-- the first refusal that applies: a keep asks nothing of the file, and not who the borrower is
 abbrev pub keep_refusal : Book → Stock → ℕ → Option Refusal
 keep_refusal b k n =
     cond (not (is_out b.outs n)) (Some LoanNotOut)
@@ -52,12 +52,9 @@ keep_refusal b k n =
 abbrev pub kept_book : Book → Stock → ℕ → Book
 kept_book b k n = recounted (book_without b n 1 0) (stock_without k n)
 
--- the first refusal that applies; a cancel does not ask who the borrower is
+-- the first refusal that applies: a cancel asks for the file's length, and then what a keep asks
 abbrev pub cancel_refusal : State → ℕ → Option Refusal
-cancel_refusal s n =
-    cond (is_other_length s) (Some OtherLength)
-    (cond (not (is_out s.book.outs n)) (Some LoanNotOut)
-    (cond (not (are_ours s.book s.stock)) (Some ForeignShelves) None))
+cancel_refusal s n = cond (is_other_length s) (Some OtherLength) (keep_refusal s.book s.stock n)
 
 -- the file with all that a loan's strokes covered put back, the newest first
 abbrev pub restored : ℕ → List ℕ → List Mark → List ℕ → List ℕ
