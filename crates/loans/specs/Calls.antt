@@ -20,3 +20,7 @@ Called d j f v (Err e) j' f' v' = (call_refusal (state_of j f v) d ≡ Some e) �
 -- a call that asks nothing of the file, and leaves any file alone
 abbrev pub CalledOnAny : Deed → Job → Shelves → Result ℕ Refusal → Job → Shelves → Type 0
 CalledOnAny d j v r j' v' = (f : List ℕ) → Called d j f v r j' f v'
+
+-- a call that asks nothing of file and shelves, and leaves any alone
+abbrev pub CalledAlone : Deed → Job → Result ℕ Refusal → Job → Type 0
+CalledAlone d j r j' = (f : List ℕ) (v : Shelves) → Called d j f v r j' f v

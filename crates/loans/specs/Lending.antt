@@ -1,15 +1,14 @@
 -- What lending a piece answers and leaves.
-use Rattle.std.specs.Prelude.{◌≡◌, ℕ, ◌+◌, Bool, cond, not, ◌&&◌, List, [], ◌∷◌, ◌++◌, length, Some, None, Ok, Err, Option, Result, ◌==◌, nat_le, slice_set}
+use Rattle.std.specs.Prelude.{ℕ, ◌+◌, Bool, cond, not, ◌&&◌, List, [], ◌∷◌, ◌++◌, length, Some, None, Option, ◌==◌, nat_le, slice_set}
 use Rattle.std.specs.List.{list_any}
 use Rattle.refusal.specs.declared.Refusal.{Refusal}
 use Rattle.refusal.specs.declared.Refusal.TheVariants.{NoSuchPiece, PieceOut, TooManyLoans, NumbersUsedUp}
 use Rattle.dds.specs.declared.area.Area.{Area}
 use Rattle.dds.specs.declared.piece.Piece.{Piece}
 use Rattle.dds.specs.Places.{exists_in, area_in}
-use Rattle.loans.specs.declared.job.Job.{Job}
 use Rattle.loans.specs.declared.ledger.Ledger.{Ledger}
 use Rattle.loans.specs.declared.ledger.Loan.{Loan}
-use Rattle.loans.specs.Jobs.{Book, book_of}
+use Rattle.loans.specs.Jobs.{Book}
 
 -- two pieces are the same where element, level and slice are
 abbrev pub same_piece : Piece → Piece → Bool
@@ -58,9 +57,3 @@ ledger_with l p who a =
       marks = l.marks;
       bytes = l.bytes;
     }
-
--- the piece is lent under the next number; a refusal changes nothing
-abbrev pub Lends : Piece → ℕ → Job → Result ℕ Refusal → Job → Type 0
-Lends p who s (Ok n) t =
-    (loan_refusal (book_of s) p ≡ None) × (n ≡ (book_of s).granted + 1) × (book_of t ≡ with_loan (book_of s) p who)
-Lends p who s (Err e) t = (loan_refusal (book_of s) p ≡ Some e) × (t ≡ s)
