@@ -7,7 +7,7 @@ use Rattle.loans.specs.declared.ledger.Loan.{Loan}
 use Rattle.loans.specs.declared.mark.Mark.{Mark}
 use Rattle.loans.specs.Lists.{less_all}
 use Rattle.loans.specs.Jobs.{Book}
-use Rattle.loans.specs.Shipping.{has_number}
+use Rattle.loans.specs.Shipping.{is_job_number}
 use Rattle.loans.specs.Stocks.{Stock, is_number, is_out, of_loan, are_ours}
 use Rattle.loans.specs.Strokes.{State, is_other_length, recounted}
 use Rattle.loans.specs.Taking.{no_mark}
@@ -80,7 +80,7 @@ cancelled s n =
 -- the first refusal that applies
 abbrev pub scrap_refusal : State → ℕ → Option Refusal
 scrap_refusal s number' =
-    cond (not (has_number s.book.number number')) (Some OtherDocket)
+    cond (not (is_job_number s.book.number number')) (Some OtherDocket)
     (cond (is_other_length s) (Some OtherLength)
     (cond (not (are_ours s.book s.stock)) (Some ForeignShelves) None))
 

@@ -1,12 +1,11 @@
 -- What lending a piece answers and leaves.
-use Rattle.std.specs.Prelude.{ℕ, ◌+◌, Bool, cond, not, ◌&&◌, List, [], ◌∷◌, ◌++◌, length, Some, None, Option, ◌==◌, nat_le, slice_set}
+use Rattle.std.specs.Prelude.{ℕ, ◌+◌, Bool, cond, not, ◌&&◌, List, [], ◌∷◌, ◌++◌, length, Some, None, Option, ◌==◌, nat_le}
 use Rattle.std.specs.List.{list_any}
 use Rattle.refusal.specs.declared.Refusal.{Refusal}
 use Rattle.refusal.specs.declared.Refusal.TheVariants.{NoSuchPiece, PieceOut, TooManyLoans, NumbersUsedUp}
 use Rattle.dds.specs.declared.area.Area.{Area}
 use Rattle.dds.specs.declared.piece.Piece.{Piece}
 use Rattle.dds.specs.Places.{exists_in, area_in}
-use Rattle.loans.specs.declared.ledger.Ledger.{Ledger}
 use Rattle.loans.specs.declared.ledger.Loan.{Loan}
 use Rattle.loans.specs.Jobs.{Book}
 
@@ -42,18 +41,4 @@ with_loan b p who =
       cancelled = b.cancelled;
       marks = b.marks;
       bytes = b.bytes;
-    }
-
--- the same in the ledger's own memory
-abbrev pub ledger_with : Ledger → Piece → ℕ → Area → Ledger
-ledger_with l p who a =
-    record {
-      number = l.number;
-      loans = slice_set l.loans l.out (granting (l.granted + 1) p who a);
-      out = l.out + 1;
-      granted = l.granted + 1;
-      kept = l.kept;
-      cancelled = l.cancelled;
-      marks = l.marks;
-      bytes = l.bytes;
     }

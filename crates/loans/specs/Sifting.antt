@@ -4,7 +4,7 @@ use Rattle.shelf.specs.Calls.{slid_down}
 use Rattle.loans.specs.declared.ending.Ends.{Ends}
 use Rattle.loans.specs.Stocks.{Stock}
 
--- the mark and its bytes stand on the shelves, and go down
+-- the mark and its bytes stand on the shelves, and where they go is no further on
 pub record CanSlide (k : Stock) (position begin n : ℕ) (to : Ends) : Type 0 where
   pub mark : position + 1 ≤ length k.marks
   pub bytes : begin + n ≤ length k.bytes

@@ -1,10 +1,27 @@
 -- What a job writes down after a call that was carried out, in the ledger's own memory.
 use Rattle.std.specs.Prelude.{ℕ, ◌+◌, ◌-◌, slice_index_or, slice_set}
+use Rattle.dds.specs.declared.area.Area.{Area}
+use Rattle.dds.specs.declared.piece.Piece.{Piece}
 use Rattle.shelf.specs.Calls.{slid_down}
 use Rattle.loans.specs.declared.ending.Ending.{Ending}
 use Rattle.loans.specs.declared.ending.Ending.TheVariants.{Kept, Cancelled}
 use Rattle.loans.specs.declared.ledger.Ledger.{Ledger}
 use Rattle.loans.specs.Books.{no_loan, loan_with}
+use Rattle.loans.specs.Lending.{granting}
+
+-- one loan more, behind those out
+abbrev pub ledger_with : Ledger → Piece → ℕ → Area → Ledger
+ledger_with l p who a =
+    record {
+      number = l.number;
+      loans = slice_set l.loans l.out (granting (l.granted + 1) p who a);
+      out = l.out + 1;
+      granted = l.granted + 1;
+      kept = l.kept;
+      cancelled = l.cancelled;
+      marks = l.marks;
+      bytes = l.bytes;
+    }
 
 -- the loan at a position has so many strokes, and the shelves so many marks and bytes
 abbrev pub ledger_counted : Ledger → ℕ → ℕ → ℕ → ℕ → Ledger

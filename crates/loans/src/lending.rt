@@ -1,6 +1,7 @@
 // Lending a piece.
 ghost use Rattle.std.specs.Prelude.{◌≡◌, ◌<◌};
-ghost use Rattle.loans.specs.Lending.{piece_is_out, ledger_with};
+ghost use Rattle.loans.specs.Lending.{piece_is_out};
+ghost use Rattle.loans.specs.Writing.{ledger_with};
 ghost use Rattle.loans.specs.Rules.Deed.{lend};
 ghost use Rattle.loans.specs.Calls.{CalledAlone};
 ghost use Rattle.loans.specs.Jobs.{book_of};
