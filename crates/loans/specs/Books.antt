@@ -16,7 +16,7 @@ no_loan =
 
 -- the loan with so many strokes that it can undo
 abbrev pub loan_with : Loan → ℕ → Loan
-loan_with l n = record { number = l.number; borrower = l.borrower; piece = l.piece; area = l.area; strokes = n }
+loan_with l n = record l { strokes = n }
 
 -- the loans out, in the order in which they were granted
 abbrev pub outs : Ledger → List Loan

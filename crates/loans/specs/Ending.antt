@@ -21,26 +21,12 @@ bytes_of p (m ∷ ms) ks =
 -- a loan's marks and kept bytes leave the shelves
 abbrev pub stock_without : Stock → ℕ → Stock
 stock_without k n =
-    record {
-      marks = less_all (of_loan n) k.marks;
-      bytes = bytes_of (λ m. not (of_loan n m)) k.marks k.bytes;
-      most_marks = k.most_marks;
-      most_bytes = k.most_bytes;
-    }
+    record k { marks = less_all (of_loan n) k.marks; bytes = bytes_of (λ m. not (of_loan n m)) k.marks k.bytes }
 
 -- a loan is out no more; of those that ended so many more were kept, and so many more cancelled
 abbrev pub book_without : Book → ℕ → ℕ → ℕ → Book
 book_without b n kept' cancelled' =
-    record {
-      table = b.table;
-      number = b.number;
-      outs = less_all (is_number n) b.outs;
-      granted = b.granted;
-      kept = b.kept + kept';
-      cancelled = b.cancelled + cancelled';
-      marks = b.marks;
-      bytes = b.bytes;
-    }
+    record b { outs = less_all (is_number n) b.outs; kept = b.kept + kept'; cancelled = b.cancelled + cancelled' }
 
 -- the first refusal that applies: a keep asks nothing of the file, and not who the borrower is
 abbrev pub keep_refusal : Book → Stock → ℕ → Option Refusal
@@ -79,8 +65,8 @@ cancelled s n =
 
 -- the first refusal that applies
 abbrev pub scrap_refusal : State → ℕ → Option Refusal
-scrap_refusal s number' =
-    cond (not (is_job_number s.book.number number')) (Some OtherDocket)
+scrap_refusal s n =
+    cond (not (is_job_number s.book.number n)) (Some OtherDocket)
     (cond (is_other_length s) (Some OtherLength)
     (cond (not (are_ours s.book s.stock)) (Some ForeignShelves) None))
 

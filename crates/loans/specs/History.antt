@@ -8,7 +8,7 @@ use Rattle.dds.specs.Places.{area_in}
 use Rattle.loans.specs.declared.ledger.Loan.{Loan}
 use Rattle.loans.specs.declared.mark.Mark.{Mark}
 use Rattle.loans.specs.Lists.{less_first, less_all}
-use Rattle.loans.specs.Jobs.{Book}
+use Rattle.loans.specs.Jobs.{Book, fresh_book}
 use Rattle.loans.specs.Lending.{granting}
 use Rattle.loans.specs.Stocks.{Stock, is_number, is_out, the_loan}
 use Rattle.loans.specs.Strokes.{State, Painting, stroke_place, recounted}
@@ -155,15 +155,11 @@ shelved most_marks' most_bytes' ss =
 -- the job that a history tells: the loans out, how many were granted, kept and cancelled, and the counts of these shelves
 abbrev pub told_book : Table → ℕ → List Event → Stock → Book
 told_book t number' h k =
-    recounted (record {
-      table = t;
-      number = Some number';
+    recounted (record (fresh_book t (Some number')) {
       outs = out_in t h;
       granted = length (lent t h);
       kept = keeps_in h;
       cancelled = cancels_in h;
-      marks = 0;
-      bytes = 0;
     }) k
 
 -- the shelves that it tells: they hold the strokes that stand and whose loan is out

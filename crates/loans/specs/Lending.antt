@@ -32,13 +32,4 @@ granting n p who a = record { number = n; borrower = who; piece = p; area = a; s
 -- one loan more, with the next number
 abbrev pub with_loan : Book → Piece → ℕ → Book
 with_loan b p who =
-    record {
-      table = b.table;
-      number = b.number;
-      outs = b.outs ++ granting (b.granted + 1) p who (area_in b.table p) ∷ [];
-      granted = b.granted + 1;
-      kept = b.kept;
-      cancelled = b.cancelled;
-      marks = b.marks;
-      bytes = b.bytes;
-    }
+    record b { outs = b.outs ++ granting (b.granted + 1) p who (area_in b.table p) ∷ []; granted = b.granted + 1 }

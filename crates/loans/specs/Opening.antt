@@ -11,9 +11,9 @@ use Rattle.loans.specs.Jobs.{book_of, fresh_book}
 -- how a job is opened on a file that is read so: the place holds the file's layout and no loans, whatever it held, and the docket carries
 -- the number; a refused open leaves the place as it was
 abbrev pub JobOpened : (Result Layout Refusal → Type 0) → ℕ → Job → Result Docket Refusal → Job → Type 0
-JobOpened Reads number s (Ok d) t =
-    (d.number ≡ number) × Reads (Ok t.layout) × (book_of t ≡ fresh_book t.layout.table (Some number))
-JobOpened Reads number s (Err e) t = Reads (Err e) × (t ≡ s)
+JobOpened reads number s (Ok d) t =
+    (d.number ≡ number) × reads (Ok t.layout) × (book_of t ≡ fresh_book t.layout.table (Some number))
+JobOpened reads number s (Err e) t = reads (Err e) × (t ≡ s)
 
 -- with a family that is handed in
 abbrev pub OpenedWith : List ℕ → ℕ → (ℕ → ℕ → ℕ) → (ℕ → ℕ → ℕ) → Job → Result Docket Refusal → Job → Type 0

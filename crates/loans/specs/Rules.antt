@@ -35,10 +35,10 @@ call_refusal s (cancel n) = cancel_refusal s n
 
 -- what a call that is carried out leaves
 abbrev pub carried_out : State → Deed → State
-carried_out s (lend p who) = record { book = with_loan s.book p who; file = s.file; stock = s.stock }
+carried_out s (lend p who) = record s { book = with_loan s.book p who }
 carried_out s (paint p) = painted s p
 carried_out s (undo n who) = undone s n
-carried_out s (keep n) = record { book = kept_book s.book s.stock n; file = s.file; stock = stock_without s.stock n }
+carried_out s (keep n) = record s { book = kept_book s.book s.stock n; stock = stock_without s.stock n }
 carried_out s (cancel n) = cancelled s n
 
 -- the number that it answers, read off what it leaves: the loan's number, the loan's undoable strokes, or how many loans are still out

@@ -14,9 +14,4 @@ pub record CanSlide (k : Stock) (position begin n : ℕ) (to : Ends) : Type 0 wh
 -- the mark and its bytes stand at the ends of what stays
 abbrev pub stock_slid : Stock → ℕ → ℕ → ℕ → Ends → Stock
 stock_slid k position begin n to =
-    record {
-      marks = slid_down position 1 to.marks k.marks;
-      bytes = slid_down begin n to.bytes k.bytes;
-      most_marks = k.most_marks;
-      most_bytes = k.most_bytes;
-    }
+    record k { marks = slid_down position 1 to.marks k.marks; bytes = slid_down begin n to.bytes k.bytes }

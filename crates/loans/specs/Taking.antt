@@ -31,12 +31,7 @@ FoundNewest ms n None = marks_of n ms ≡ 0
 -- the shelves without the mark at a position and its bytes
 abbrev pub stock_less : Stock → ℕ → ℕ → Stock
 stock_less k position begin =
-    record {
-      marks = without_run position 1 k.marks;
-      bytes = without_run begin (get_or k.marks position no_mark).length k.bytes;
-      most_marks = k.most_marks;
-      most_bytes = k.most_bytes;
-    }
+    record k { marks = without_run position 1 k.marks; bytes = without_run begin (get_or k.marks position no_mark).length k.bytes }
 
 -- the file with what the mark at a position covered put back
 abbrev pub file_less : List ℕ → Stock → ℕ → ℕ → List ℕ
