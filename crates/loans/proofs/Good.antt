@@ -1,5 +1,5 @@
 -- The invariant of a history, over every loan ever granted, the loans out and the strokes that stand; and that each call keeps it.
-use Rattle.std.proofs.Common.{◌≡◌, ℕ, suc, ◌+◌, ◌*◌, ◌<◌, ◌≤◌, true, false, cond, not, eqb, ◌⊎◌, List, [], ◌∷◌, ◌++◌, reverse, length, sym, refl, ap, ◌∙◌, subst, inl, inr, mul-le-mul_right, suc-mul, mul_comm, arith}
+use Rattle.std.proofs.Common.{◌≡◌, ℕ, suc, ◌+◌, ◌*◌, ◌<◌, ◌≤◌, true, false, cond, not, eqb, ◌⊎◌, List, [], ◌∷◌, ◌++◌, reverse, length, sym, refl, ap, ◌∙◌, subst, inl, inr, mul-le-mul_right, suc-mul, mul_comm, arith, ◌||◌}
 use Rattle.std.specs.List.{AllByRecursion}
 use Rattle.std.proofs.ByRecursion.{All-weaker, All-push, all_kept_by}
 use Rattle.std.proofs.lemmas.List.{length-append, length_push, flat_map_more}
@@ -101,7 +101,7 @@ module _ (ls : List Loan) (numbers : NumberedFromOne ls) (new : Loan) (fresh : n
   loan_same m h = ap (λ b. cond b new (the_loan ls m)) (other m h)
 
   known_old : (m : ℕ) → is_out ls m ≡ true → is_out (new ∷ ls) m ≡ true
-  known_old m h = elim (eqb m new.number) as (λ b. cond b true (is_out ls m) ≡ true) [ true ↦ refl | false ↦ h ]
+  known_old m h = elim (eqb m new.number) as (λ b. (b || is_out ls m) ≡ true) [ true ↦ refl | false ↦ h ]
 
   pub rows_old : (ss : List Stroke) → AllByRecursion (InRow ls) ss → AllByRecursion (InRow (new ∷ ls)) ss
   rows_old ss h = All-weaker (InRow ls) (InRow (new ∷ ls)) (λ s r. row_in ls (new ∷ ls) s (sym (loan_same s.painting.loan r.lent)) (known_old s.painting.loan r.lent) r) ss h

@@ -1,6 +1,6 @@
 -- Loans that were handed in stay so.
-use Rattle.std.proofs.Common.{◌≡◌, ℕ, suc, ◌+◌, ◌<◌, ◌≤◌, Bool, true, false, cond, not, eqb, List, [], ◌∷◌, map, length, get_or, Some, None, Ok, Err, filter, Option, Result, sym, refl, ap, ◌∙◌, subst, arith}
-use Rattle.std.specs.List.{AllByRecursion}
+use Rattle.std.proofs.Common.{◌≡◌, ℕ, suc, ◌+◌, ◌<◌, ◌≤◌, Bool, true, false, cond, not, eqb, List, [], ◌∷◌, map, length, get_or, Some, None, Ok, Err, filter, Option, Result, sym, refl, ap, ◌∙◌, subst, arith, ◌||◌}
+use Rattle.std.specs.List.{list_any, AllByRecursion}
 use Rattle.std.proofs.lemmas.Bool.{true≢false, false≢true, not-false, eqb-true, eq-eqb, ne_eqb}
 use Rattle.refusal.specs.declared.Refusal.{Refusal}
 use Rattle.refusal.specs.declared.Refusal.TheVariants.{OtherLength, LoanNotOut}
@@ -8,7 +8,7 @@ use Rattle.loans.specs.declared.job.Job.{Job}
 use Rattle.loans.specs.declared.ledger.Loan.{Loan}
 use Rattle.loans.specs.declared.mark.Mark.{Mark}
 use Rattle.loans.specs.declared.mark.Shelves.{Shelves}
-use Rattle.loans.specs.Lists.{some_of, less_all}
+use Rattle.loans.specs.Lists.{less_all}
 use Rattle.loans.specs.Books.{no_loan}
 use Rattle.loans.specs.Jobs.{Book, book_of}
 use Rattle.loans.specs.Stocks.{Stock, stock_of, is_number, is_out, the_loan}
@@ -17,7 +17,7 @@ use Rattle.loans.specs.Ending.{keep_refusal, kept_book, cancel_refusal, cancelle
 use Rattle.loans.specs.Rules.{Deed, call_refusal, carried_out, left, after}
 use Rattle.loans.specs.Rules.Deed.{lend, paint, undo, keep, cancel}
 use Rattle.loans.specs.Calls.{Called}
-use Rattle.loans.specs.Handed.{Step, state_with, later_book, is_on, RefusedAsNotOut, HandedIn, HandedWhere, HandedBy}
+use Rattle.loans.specs.Handed.{LaterCall, state_with, later_book, is_on, RefusedAsNotOut, HandedIn, HandedWhere, HandedBy}
 use Rattle.loans.proofs.Counting.{out_count, out_at}
 use Rattle.loans.proofs.Passing.{passed}
 use Rattle.loans.proofs.Listed.{some_of_map, some_of_push, some_of_none, none_less_all, first_among, all_among}
@@ -27,12 +27,12 @@ pub record Gone (n : ℕ) (b : Book) : Type 0 where
   pub not_out : is_out b.outs n ≡ false
   pub given : n ≤ b.granted
 
-some_kept : {A : Type 0} (p q : A → Bool) (xs : List A) → some_of p xs ≡ false → some_of p (filter q xs) ≡ false
+some_kept : {A : Type 0} (p q : A → Bool) (xs : List A) → list_any p xs ≡ false → list_any p (filter q xs) ≡ false
 some_kept p q [] h = refl
 some_kept p q (x ∷ xs) h = go (p x) refl (q x) h (some_kept p q xs)
   where
-    go : (b : Bool) → p x ≡ b → (c : Bool) → cond b true (some_of p xs) ≡ false → (some_of p xs ≡ false → some_of p (filter q xs) ≡ false)
-        → some_of p (cond c (x ∷ filter q xs) (filter q xs)) ≡ false
+    go : (b : Bool) → p x ≡ b → (c : Bool) → (b || list_any p xs) ≡ false → (list_any p xs ≡ false → list_any p (filter q xs) ≡ false)
+        → list_any p (cond c (x ∷ filter q xs) (filter q xs)) ≡ false
     go true e c h' later = absurd (true≢false h')
     go false e true h' later = rw e (later h')
     go false e false h' later = later h'
@@ -62,7 +62,7 @@ gone_carried n s g (cancel m) = record { not_out = without_out n _ s.book.outs m
 gone_after : (n : ℕ) (s : State) → Gone n s.book → (d : Deed) → Gone n (after s d).book
 gone_after n s g d = left_either (λ (x : State). Gone n x.book) (call_refusal s d) s (carried_out s d) g (gone_carried n s g d)
 
-gone_later : (n : ℕ) (xs : List Step) (b : Book) → Gone n b → Gone n (later_book b xs)
+gone_later : (n : ℕ) (xs : List LaterCall) (b : Book) → Gone n b → Gone n (later_book b xs)
 gone_later n [] b g = g
 gone_later n (x ∷ xs) b g = gone_later n xs _ (gone_after n (state_with b x.file x.stock) g x.deed)
 

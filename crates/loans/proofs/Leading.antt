@@ -1,9 +1,9 @@
 -- How much stands before the first mark of a loan.
-use Rattle.std.proofs.Common.{◌≡◌, ℕ, ◌+◌, ◌<◌, ◌≤◌, false, ◌≢◌, List, [], ◌∷◌, length, get_or, take, drop, sym, ap, ◌∙◌, ap₂, take-append-drop, arith}
+use Rattle.std.proofs.Common.{◌≡◌, ℕ, ◌+◌, ◌<◌, ◌≤◌, false, ◌≢◌, ◌||◌, List, [], ◌∷◌, length, get_or, take, drop, sym, ap, ◌∙◌, ap₂, take-append-drop, arith}
 use Rattle.std.proofs.lemmas.List.{take_more}
 use Rattle.std.proofs.lemmas.Bool.{cond-false, eq-eqb, ne_eqb}
+use Rattle.std.specs.List.{list_any}
 use Rattle.loans.specs.declared.mark.Mark.{Mark}
-use Rattle.loans.specs.Lists.{some_of}
 use Rattle.loans.specs.Stocks.{of_loan, lengths}
 use Rattle.loans.specs.Sifting.{Leads}
 use Rattle.loans.specs.Taking.{no_mark}
@@ -13,7 +13,7 @@ use Rattle.loans.proofs.Searches.{some_append}
 -- so many marks were passed, with so many bytes, and none is the loan's
 pub record Passed (ms : List Mark) (n k bytes : ℕ) : Type 0 where
   pub inside : k ≤ length ms
-  pub others : some_of (of_loan n) (take k ms) ≡ false
+  pub others : list_any (of_loan n) (take k ms) ≡ false
   pub sum : bytes ≡ lengths (take k ms)
 
 module _ {ms : List Mark} {n k bytes : ℕ} (p : Passed ms n k bytes) where
@@ -27,8 +27,8 @@ module _ {ms : List Mark} {n k bytes : ℕ} (p : Passed ms n k bytes) where
       record {
         inside = omega (arith, h);
         others =
-            ap (some_of (of_loan n)) more ∙ some_append (of_loan n) (take k ms) (last ∷ []) ∙ cond-false _ _ _ p.others
-            ∙ cond-false _ _ _ (ne_eqb n last.loan (λ f. e (sym f)));
+            ap (list_any (of_loan n)) more ∙ some_append (of_loan n) (take k ms) (last ∷ []) ∙ cond-false _ _ _ p.others
+            ∙ ap (λ b. b || false) (ne_eqb n last.loan (λ f. e (sym f)));
         sum = ap₂ (λ a b. a + b) p.sum (omega arith) ∙ sym (ap lengths more ∙ lengths_append (take k ms) (last ∷ []));
       }
 
@@ -38,7 +38,7 @@ module _ {ms : List Mark} {n k bytes : ℕ} (p : Passed ms n k bytes) where
   pub leads_all : k ≡ length ms → Leads ms n (record { marks = length ms; bytes = bytes })
   leads_all e = record {
     inside = omega arith;
-    others = ap (λ i. some_of (of_loan n) (take i ms)) (sym e) ∙ p.others;
+    others = ap (λ i. list_any (of_loan n) (take i ms)) (sym e) ∙ p.others;
     bytes = p.sum ∙ ap (λ i. lengths (take i ms)) e;
     next = λ h. absurd (omega arith);
   }

@@ -1,11 +1,11 @@
 -- Lists, tests and members.
-use Rattle.std.proofs.Common.{◌≡◌, ℕ, zero, suc, ◌<◌, Bool, true, false, cond, not, ◌&&◌, ◌⊎◌, List, [], ◌∷◌, ◌++◌, map, reverse, length, get_or, filter, arith, sym, refl, ap, ◌∙◌, inl, inr, append-nil}
+use Rattle.std.proofs.Common.{◌≡◌, ℕ, zero, suc, ◌<◌, Bool, true, false, cond, not, ◌&&◌, ◌⊎◌, List, [], ◌∷◌, ◌++◌, map, reverse, length, get_or, filter, arith, sym, refl, ap, ◌∙◌, inl, inr, append-nil, ◌||◌}
 use mathlib.Core.List.{reverse-cons}
-use Rattle.std.specs.List.{AllByRecursion, Contains}
+use Rattle.std.specs.List.{list_any, AllByRecursion, Contains}
 use Rattle.std.proofs.lemmas.List.Elements.{filter-append}
 use Rattle.std.proofs.ByRecursion.{All-push}
 use Rattle.std.proofs.lemmas.Bool.{false≢true}
-use Rattle.loans.specs.Lists.{first_or, some_of, less_first, less_all}
+use Rattle.loans.specs.Lists.{first_or, less_first, less_all}
 
 module _ {A : Type 0} where
   -- a is one of a list
@@ -59,22 +59,22 @@ module _ {A : Type 0} where
         go true e h = h
         go false e h = (e, h)
 
-    pub some_of_none : (xs : List A) → None xs → some_of p xs ≡ false
+    pub some_of_none : (xs : List A) → None xs → list_any p xs ≡ false
     some_of_none [] h = refl
     some_of_none (x ∷ xs) h = rw h.0 (some_of_none xs h.1)
 
-    pub some_of_mid : (xs : List A) (k : A) (ys : List A) → p k ≡ true → some_of p (xs ++ k ∷ ys) ≡ true
+    pub some_of_mid : (xs : List A) (k : A) (ys : List A) → p k ≡ true → list_any p (xs ++ k ∷ ys) ≡ true
     some_of_mid [] k ys e = rw e
-    some_of_mid (x ∷ xs) k ys e = elim (p x) as (λ b. cond b true (some_of p (xs ++ k ∷ ys)) ≡ true) [ true ↦ refl | false ↦ some_of_mid xs k ys e ]
+    some_of_mid (x ∷ xs) k ys e = elim (p x) as (λ b. (b || list_any p (xs ++ k ∷ ys)) ≡ true) [ true ↦ refl | false ↦ some_of_mid xs k ys e ]
 
-    pub first_among : (d : A) (xs : List A) → some_of p xs ≡ true → Among xs (first_or d p xs) × (p (first_or d p xs) ≡ true)
+    pub first_among : (d : A) (xs : List A) → list_any p xs ≡ true → Among xs (first_or d p xs) × (p (first_or d p xs) ≡ true)
     first_among d [] h = absurd (false≢true h)
     first_among d (x ∷ xs) h = go (p x) refl h (first_among d xs)
       where
         Found : List A → A → Type 0
         Found ys y = Among ys y × (p y ≡ true)
 
-        go : (b : Bool) → p x ≡ b → cond b true (some_of p xs) ≡ true → (some_of p xs ≡ true → Found xs (first_or d p xs)) → Found (x ∷ xs) (cond b x (first_or d p xs))
+        go : (b : Bool) → p x ≡ b → (b || list_any p xs) ≡ true → (list_any p xs ≡ true → Found xs (first_or d p xs)) → Found (x ∷ xs) (cond b x (first_or d p xs))
         go true e h' later = (inl refl, e)
         go false e h' later = let r = later h' in (inr r.0, r.1)
 
@@ -146,10 +146,10 @@ pub all_reverse : {A : Type 0} (P : A → Type 0) (xs : List A) → AllByRecursi
 all_reverse P [] h = tt
 all_reverse P (x ∷ xs) h = rw (reverse-cons x xs) (All-push P (reverse xs) x (all_reverse P xs h.1) h.0)
 
-pub some_of_map : {A B : Type 0} (f : A → B) (p : B → Bool) (xs : List A) → some_of p (map f xs) ≡ some_of (λ x. p (f x)) xs
+pub some_of_map : {A B : Type 0} (f : A → B) (p : B → Bool) (xs : List A) → list_any p (map f xs) ≡ list_any (λ x. p (f x)) xs
 some_of_map f p [] = refl
 some_of_map f p (x ∷ xs) = rw (some_of_map f p xs)
 
-pub some_of_push : {A : Type 0} (p : A → Bool) (xs : List A) (y : A) → p y ≡ false → some_of p (xs ++ y ∷ []) ≡ some_of p xs
+pub some_of_push : {A : Type 0} (p : A → Bool) (xs : List A) (y : A) → p y ≡ false → list_any p (xs ++ y ∷ []) ≡ list_any p xs
 some_of_push p [] y e = rw e
 some_of_push p (x ∷ xs) y e = rw (some_of_push p xs y e)

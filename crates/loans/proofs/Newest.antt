@@ -1,12 +1,12 @@
 -- Finding the newest mark of a loan from the end, and what is left without it.
-use Rattle.std.proofs.Common.{◌≡◌, ℕ, suc, ◌+◌, ◌-◌, ◌<◌, ◌≤◌, Bool, true, false, cond, not, ◌&&◌, ◌≢◌, List, [], ◌∷◌, ◌++◌, length, get_or, take, drop, take_all, sym, refl, ap, ◌∙◌, ap₂, append_assoc, arith, drop-drop, take-add, length-append}
+use Rattle.std.proofs.Common.{◌≡◌, ℕ, suc, ◌+◌, ◌-◌, ◌<◌, ◌≤◌, Bool, true, false, cond, not, ◌&&◌, ◌≢◌, List, [], ◌∷◌, ◌++◌, length, get_or, take, drop, take_all, sym, refl, ap, ◌∙◌, ap₂, append_assoc, arith, drop-drop, take-add, length-append, ◌||◌}
+use Rattle.std.specs.List.{list_any}
 use lib.Seq.{paste, split_at}
 use Rattle.std.proofs.Math.Seq.{take-append_seam, get_or-append_seam}
 use Rattle.std.proofs.lemmas.List.{take_more, at_drop_more, take-take, get_or-take}
 use Rattle.std.proofs.lemmas.Bool.{cond-true, cond-false, eq-eqb, ne_eqb, and_right, false≢true}
 use Rattle.shelf.specs.Calls.{without_run}
 use Rattle.loans.specs.declared.mark.Mark.{Mark}
-use Rattle.loans.specs.Lists.{some_of}
 use Rattle.loans.specs.Stocks.{Stock, of_loan, marks_of, lengths}
 use Rattle.loans.specs.Strokes.{is_newest, marks_less, bytes_less, file_back, undone_stock}
 use Rattle.loans.specs.Taking.{no_mark, NewestAt, stock_less}
@@ -43,11 +43,11 @@ last_apart xs some =
     let back : length xs - 1 + 1 ≡ length xs = omega arith in
     sym (take_all (length xs) xs (omega arith)) ∙ ap (λ k. take k xs) (sym back) ∙ take_more xs (length xs - 1) no_mark (omega arith)
 
-pub marks_none : (n : ℕ) (ms : List Mark) → some_of (of_loan n) ms ≡ false → marks_of n ms ≡ 0
+pub marks_none : (n : ℕ) (ms : List Mark) → list_any (of_loan n) ms ≡ false → marks_of n ms ≡ 0
 marks_none n [] h = refl
 marks_none n (m ∷ ms) h = go (of_loan n m) h (marks_none n ms)
   where
-    go : (b : Bool) → cond b true (some_of (of_loan n) ms) ≡ false → (some_of (of_loan n) ms ≡ false → marks_of n ms ≡ 0)
+    go : (b : Bool) → (b || list_any (of_loan n) ms) ≡ false → (list_any (of_loan n) ms ≡ false → marks_of n ms ≡ 0)
         → cond b (suc (marks_of n ms)) (marks_of n ms) ≡ 0
     go true e later = absurd (false≢true (sym e))
     go false e later = later e
@@ -55,7 +55,7 @@ marks_none n (m ∷ ms) h = go (of_loan n m) h (marks_none n ms)
 -- no mark of the loan was found from a position on
 pub record Unfound (ms : List Mark) (n k begin' : ℕ) : Type 0 where
   pub within : k ≤ length ms
-  pub none : some_of (of_loan n) (drop k ms) ≡ false
+  pub none : list_any (of_loan n) (drop k ms) ≡ false
   pub begin : begin' ≡ lengths (take k ms)
 
 module _ {ms : List Mark} {n k begin : ℕ} (u : Unfound ms n k begin) (some : 0 < k) where
@@ -84,7 +84,7 @@ module _ {ms : List Mark} {n k begin : ℕ} (u : Unfound ms n k begin) (some : 0
   newest_here e = record {
     inside = last_inside;
     loan = eq-eqb n _ (sym e);
-    last = ap (λ i. some_of (of_loan n) (drop i ms)) back ∙ u.none;
+    last = ap (λ i. list_any (of_loan n) (drop i ms)) back ∙ u.none;
     begin = begin_back;
   }
 
@@ -92,18 +92,18 @@ module _ {ms : List Mark} {n k begin : ℕ} (u : Unfound ms n k begin) (some : 0
   unfound_before e = record {
     within = omega (arith, last_inside);
     none =
-        at_drop_more (some_of (of_loan n)) ms last no_mark last_inside ∙ cond-false _ _ _ (ne_eqb n (get_or ms last no_mark).loan (λ f. e (sym f)))
-        ∙ ap (λ i. some_of (of_loan n) (drop i ms)) back ∙ u.none;
+        at_drop_more (list_any (of_loan n)) ms last no_mark last_inside ∙ ap (λ b. b || list_any (of_loan n) (drop (last + 1) ms)) (ne_eqb n (get_or ms last no_mark).loan (λ f. e (sym f)))
+        ∙ ap (λ i. list_any (of_loan n) (drop i ms)) back ∙ u.none;
     begin = begin_back;
   }
 
 pub unfound_none : {ms : List Mark} {n k begin : ℕ} → Unfound ms n k begin → k ≡ 0 → marks_of n ms ≡ 0
-unfound_none {ms = ms} {n = n} u z = marks_none n ms (ap (λ i. some_of (of_loan n) (drop i ms)) (sym z) ∙ u.none)
+unfound_none {ms = ms} {n = n} u z = marks_none n ms (ap (λ i. list_any (of_loan n) (drop i ms)) (sym z) ∙ u.none)
 
-module _ (n : ℕ) (m : Mark) (of-n : of_loan n m ≡ true) (behind : List Mark) (last : some_of (of_loan n) behind ≡ false) where
-  some_mid : (front : List Mark) → some_of (of_loan n) (front ++ m ∷ behind) ≡ true
-  some_mid [] = cond-true _ _ _ of-n
-  some_mid (x ∷ front) = elim (of_loan n x) as (λ b. cond b true (some_of (of_loan n) (front ++ m ∷ behind)) ≡ true) [ true ↦ refl | false ↦ some_mid front ]
+module _ (n : ℕ) (m : Mark) (of-n : of_loan n m ≡ true) (behind : List Mark) (last : list_any (of_loan n) behind ≡ false) where
+  some_mid : (front : List Mark) → list_any (of_loan n) (front ++ m ∷ behind) ≡ true
+  some_mid [] = ap (λ b. b || list_any (of_loan n) behind) of-n
+  some_mid (x ∷ front) = elim (of_loan n x) as (λ b. (b || list_any (of_loan n) (front ++ m ∷ behind)) ≡ true) [ true ↦ refl | false ↦ some_mid front ]
 
   newest_mid : is_newest n m behind ≡ true
   newest_mid = ap₂ (λ a b. a && not b) of-n last

@@ -93,7 +93,7 @@ pub one_less : (n : ℕ) (ls : List Loan) → Rising ls → is_out ls n ≡ true
 one_less n [] r h = absurd (false≢true h)
 one_less n (l ∷ ls) r h = go (is_number n l) refl h (one_less n ls r.1)
   where
-    go : (b : Bool) → is_number n l ≡ b → cond b true (is_out ls n) ≡ true → (is_out ls n ≡ true → length ls ≡ suc (length (less_all (is_number n) ls)))
+    go : (b : Bool) → is_number n l ≡ b → (b || is_out ls n) ≡ true → (is_out ls n ≡ true → length ls ≡ suc (length (less_all (is_number n) ls)))
         → suc (length ls) ≡ suc (length (cond (not b) (l ∷ less_all (is_number n) ls) (less_all (is_number n) ls)))
     go true e h' later =
         ap (λ (v : List Loan). suc (length v))
@@ -105,7 +105,7 @@ pub numbered_known : (ls : List Loan) (n : ℕ) → NumberedFromOne ls → is_ou
 numbered_known [] n r h = absurd (false≢true h)
 numbered_known (l ∷ ls) n r h = go (is_number n l) refl h (numbered_known ls n r.1)
   where
-    go : (b : Bool) → is_number n l ≡ b → cond b true (is_out ls n) ≡ true → (is_out ls n ≡ true → n ≤ length ls) → n ≤ suc (length ls)
+    go : (b : Bool) → is_number n l ≡ b → (b || is_out ls n) ≡ true → (is_out ls n ≡ true → n ≤ length ls) → n ≤ suc (length ls)
     go true e h' later = let f = eqb-true n l.number e in let g = r.0 in omega arith
     go false e h' later = let f = later h' in omega arith
 

@@ -2,14 +2,14 @@
 use Rattle.std.proofs.Common.{◌≡◌, ℕ, zero, suc, ◌+◌, ◌-◌, ◌≤◌, Bool, true, false, cond, ◌⊎◌, List, [], ◌∷◌, ◌++◌, map, length, take, drop, filter, sym, refl, ap, ◌∙◌, subst, ap₂, subst₂, inl, inr, append_assoc, arith}
 use mathlib.Core.List.{reverse-cons}
 use lib.Seq.{paste}
-use Rattle.std.specs.List.{flat_map, AllByRecursion}
+use Rattle.std.specs.List.{list_any, flat_map, AllByRecursion}
 use Rattle.std.proofs.lemmas.List.{reverse-append, length-append, take_at, drop_at, map_push, flat_map_more}
 use Rattle.std.proofs.lemmas.List.Elements.{filter-append}
 use Rattle.std.proofs.ByRecursion.{All-weaker, all_kept_by}
 use Rattle.std.proofs.lemmas.Bool.{and_right}
 use Rattle.loans.specs.declared.ledger.Loan.{Loan}
 use Rattle.loans.specs.declared.mark.Mark.{Mark}
-use Rattle.loans.specs.Lists.{some_of, less_first, less_all}
+use Rattle.loans.specs.Lists.{less_first, less_all}
 use Rattle.loans.specs.Stocks.{is_out, of_loan, marks_of, lengths}
 use Rattle.loans.specs.Strokes.{stock_with, marks_less, bytes_less, file_back, undone_stock}
 use Rattle.loans.specs.Ending.{bytes_of, restored}
@@ -26,10 +26,10 @@ abbrev pub Even : Stroke → Type 0
 Even s = length s.below ≡ stroke_length s
 
 module _ (n : ℕ) where
-  some_newer : (older : List Stroke) (k : Stroke) (newer : List Stroke) → stroke_of n k ≡ true → some_of (of_loan n) (map mark_of (older ++ k ∷ newer)) ≡ true
+  some_newer : (older : List Stroke) (k : Stroke) (newer : List Stroke) → stroke_of n k ≡ true → list_any (of_loan n) (map mark_of (older ++ k ∷ newer)) ≡ true
   some_newer older k newer e = some_of_map mark_of (of_loan n) (older ++ k ∷ newer) ∙ some_of_mid (stroke_of n) older k newer e
 
-  none_newer : (newer : List Stroke) → None (stroke_of n) newer → some_of (of_loan n) (map mark_of newer) ≡ false
+  none_newer : (newer : List Stroke) → None (stroke_of n) newer → list_any (of_loan n) (map mark_of newer) ≡ false
   none_newer newer h = some_of_map mark_of (of_loan n) newer ∙ some_of_none (stroke_of n) newer h
 
   -- the newest mark of a loan is taken from the middle

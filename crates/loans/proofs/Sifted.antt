@@ -1,8 +1,9 @@
 -- Closing the gaps that a loan's marks and bytes leave on the shelves, run after run.
-use Rattle.std.proofs.Common.{◌≡◌, ℕ, ◌+◌, ◌≤◌, Bool, true, false, cond, not, List, [], ◌∷◌, ◌++◌, length, get_or, take, drop, Result, sym, refl, ap, ◌∙◌, ap₂, subst, subst₂, append_assoc, append-nil, arith, length-drop, take-append-drop, length-take-le, take-add, take_all, drop-drop}
+use Rattle.std.proofs.Common.{◌≡◌, ℕ, ◌+◌, ◌≤◌, Bool, true, false, cond, not, ◌||◌, List, [], ◌∷◌, ◌++◌, length, get_or, take, drop, Result, sym, refl, ap, ◌∙◌, ap₂, subst, subst₂, append_assoc, append-nil, arith, length-drop, take-append-drop, length-take-le, take-add, take_all, drop-drop}
 use Rattle.std.proofs.lemmas.List.Elements.{filter-append}
 use Rattle.std.proofs.lemmas.List.{length-append}
 use Rattle.std.proofs.lemmas.Bool.{cond-false, true≢false, eq-eqb}
+use Rattle.std.specs.List.{list_any}
 use Rattle.refusal.specs.declared.Refusal.{Refusal}
 use Rattle.shelf.specs.Calls.{Slide, Truncate, slid_down}
 use Rattle.shelf.proofs.Shelves.{counted, slide_done, truncate_done}
@@ -10,7 +11,7 @@ use Rattle.shelf.proofs.Runs.{slid_front, slid_behind}
 use Rattle.loans.specs.declared.mark.Mark.{Mark}
 use Rattle.loans.specs.declared.mark.Shelves.{Shelves}
 use Rattle.loans.specs.declared.sifting.Amount.{Amount}
-use Rattle.loans.specs.Lists.{some_of, less_all}
+use Rattle.loans.specs.Lists.{less_all}
 use Rattle.loans.specs.Stocks.{Stock, stock_of, of_loan, lengths}
 use Rattle.loans.specs.Taking.{no_mark}
 use Rattle.loans.specs.Ending.{bytes_of, stock_without}
@@ -54,11 +55,11 @@ rest_append n (m ∷ ms) ns ks =
     go false e = e
 
 -- of other loans' marks all bytes stay
-rest_others : (n : ℕ) (ms : List Mark) (ks : List ℕ) → some_of (of_loan n) ms ≡ false → rest_of n ms ks ≡ take (lengths ms) ks
+rest_others : (n : ℕ) (ms : List Mark) (ks : List ℕ) → list_any (of_loan n) ms ≡ false → rest_of n ms ks ≡ take (lengths ms) ks
 rest_others n [] ks h = refl
 rest_others n (m ∷ ms) ks h = go (of_loan n m) h (rest_others n ms (drop m.length ks))
   where
-    go : (b : Bool) → cond b true (some_of (of_loan n) ms) ≡ false → (some_of (of_loan n) ms ≡ false → rest_of n ms (drop m.length ks) ≡ take (lengths ms) (drop m.length ks))
+    go : (b : Bool) → (b || list_any (of_loan n) ms) ≡ false → (list_any (of_loan n) ms ≡ false → rest_of n ms (drop m.length ks) ≡ take (lengths ms) (drop m.length ks))
         → cond (not b) (take m.length ks ++ rest_of n ms (drop m.length ks)) (rest_of n ms (drop m.length ks)) ≡ take (m.length + lengths ms) ks
     go true h' later = absurd (true≢false h')
     go false h' later = ap (λ ys. take m.length ks ++ ys) (later h') ∙ sym (take-add m.length (lengths ms) ks)
@@ -134,7 +135,7 @@ module _ {old st : Stock} {n : ℕ} {passed stays : Amount} (s : Sifted old st n
   }
 
   -- marks of other loans are moved down, and their bytes
-  pub sifted_in : some_of (of_loan n) (take run.marks (drop passed.marks st.marks)) ≡ false → (st' : Stock) → st' ≡ stock_slid st passed run stays
+  pub sifted_in : list_any (of_loan n) (take run.marks (drop passed.marks st.marks)) ≡ false → (st' : Stock) → st' ≡ stock_slid st passed run stays
       → Sifted old st' n (record { marks = passed.marks + run.marks; bytes = passed.bytes + run.bytes }) (record { marks = stays.marks + run.marks; bytes = stays.bytes + run.bytes })
   sifted_in others st' is = record {
     marks_front =
@@ -169,8 +170,8 @@ module _ {old st : Stock} {n : ℕ} {passed stays : Amount} (s : Sifted old st n
     most_bytes = ap (λ (x : Stock). x.most_bytes) is ∙ s.most_bytes;
   }
     where
-      none : some_of (of_loan n) run_marks ≡ false
-      none = ap (some_of (of_loan n)) (sym run_is) ∙ others
+      none : list_any (of_loan n) run_marks ≡ false
+      none = ap (list_any (of_loan n)) (sym run_is) ∙ others
 
 -- the mark that is next
 one_long : (ms : List Mark) → 1 ≤ length ms → (get_or ms 0 no_mark).length ≡ lengths (take 1 ms)
@@ -230,7 +231,7 @@ module _ {old st : Stock} {n : ℕ} {passed stays : Amount} (s : Sifted old st n
         → q ≡ record { marks = stays.marks + run.marks; bytes = stays.bytes + run.bytes } → Sifted old st' n p q
     run_moved st' slid_is p q p_is q_is =
         subst₂ (λ x y. Sifted old st' n x y) (sym p_is) (sym q_is)
-        (sifted_in s covered run run_inside run_bytes (ap (λ xs. some_of (of_loan n) (take run.marks xs)) (sym read) ∙ leads.others) st' slid_is)
+        (sifted_in s covered run run_inside run_bytes (ap (λ xs. list_any (of_loan n) (take run.marks xs)) (sym read) ∙ leads.others) st' slid_is)
 
 -- what is left once all marks were passed, and both shelves cut off behind what stays
 pub sifted_all : (old : Stock) (v w : Shelves) (n : ℕ) (passed stays : Amount) (r r' : Result ℕ Refusal) → Sifted old (stock_of v) n passed stays

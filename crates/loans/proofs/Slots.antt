@@ -1,21 +1,20 @@
 -- Which loan has a number, and where it stands.
 use Rattle.std.proofs.Common.{◌≡◌, ℕ, suc, ◌<◌, ◌≤◌, Bool, false, cond, eqb, ltb, ◌≢◌, List, [], ◌∷◌, length, get_or, take, Some, None, Option, sym, refl, ◌∙◌, subst, ⊎_elim, arith, length-take-le}
-use Rattle.std.specs.List.{position_or_len}
+use Rattle.std.specs.List.{list_any, position_or_len}
 use Rattle.std.proofs.lemmas.List.{get_or-take}
 use Rattle.std.proofs.lemmas.List.Sums.{fails_before_first, passes_at_first}
-use Rattle.std.proofs.lemmas.Bool.{cases_lt, cond-true, cond-false, lt-ltb, le-ltb, eqb-true, eqb-false, eq-eqb, ne_eqb}
+use Rattle.std.proofs.lemmas.Bool.{or_from, cases_lt, cond-true, cond-false, lt-ltb, le-ltb, eqb-true, eqb-false, eq-eqb, ne_eqb}
 use Rattle.loans.specs.declared.ledger.Loan.{Loan}
-use Rattle.loans.specs.Lists.{some_of}
 use Rattle.loans.specs.Books.{no_loan}
 use Rattle.loans.specs.Stocks.{is_number}
 use Rattle.loans.specs.Finding.{StandsAt, Found}
 use Rattle.loans.proofs.Searches.{first_at}
 
 -- none of the loans has the number, where none at any position has
-pub none_has : (ls : List Loan) (n : ℕ) → ((j : ℕ) → j < length ls → (get_or ls j no_loan).number ≢ n) → some_of (is_number n) ls ≡ false
+pub none_has : (ls : List Loan) (n : ℕ) → ((j : ℕ) → j < length ls → (get_or ls j no_loan).number ≢ n) → list_any (is_number n) ls ≡ false
 none_has [] n h = refl
 none_has (l ∷ ls) n h =
-    cond-false (is_number n l) _ _ (ne_eqb n l.number (λ e. h 0 (omega arith) (sym e))) ∙ none_has ls n (λ j f. h (suc j) (omega arith))
+    or_from (is_number n l) (list_any (is_number n) ls) (ne_eqb n l.number (λ e. h 0 (omega arith) (sym e))) (none_has ls n (λ j f. h (suc j) (omega arith)))
 
 -- the first that has the number
 pub stands_first : (ls : List Loan) (n k : ℕ) → k < length ls → ((j : ℕ) → j < k → (get_or ls j no_loan).number ≢ n) → (get_or ls k no_loan).number ≡ n

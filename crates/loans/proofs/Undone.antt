@@ -1,5 +1,5 @@
 -- What an undo that is carried out takes back and leaves.
-use Rattle.std.proofs.Common.{◌≡◌, ℕ, zero, suc, ◌+◌, ◌-◌, ◌<◌, ◌≤◌, Bool, true, false, cond, ◌&&◌, eqb, leb, ◌≢◌, List, [], ◌∷◌, ◌++◌, length, get_or, take, drop, sym, refl, ap, ◌∙◌, arith}
+use Rattle.std.proofs.Common.{◌≡◌, ℕ, zero, suc, ◌+◌, ◌-◌, ◌<◌, ◌≤◌, Bool, true, false, cond, ◌&&◌, eqb, leb, ◌≢◌, List, [], ◌∷◌, ◌++◌, length, get_or, take, drop, sym, refl, ap, ◌∙◌, arith, ◌||◌}
 use Rattle.std.proofs.lemmas.Bool.{false≢true, cond-true, cond-false, and_parts, leb-true, eqb-true, ne_eqb}
 use Rattle.shelf.specs.Model.{contents}
 use Rattle.dds.specs.declared.area.Area.{Area}
@@ -145,7 +145,7 @@ pub out_somewhere : (ls : List Loan) (n : ℕ) → is_out ls n ≡ true → (j :
 out_somewhere [] n h = absurd (false≢true h)
 out_somewhere (l ∷ ls) n h = go (eqb n l.number) h (out_somewhere ls n)
   where
-    go : (b : Bool) → cond b true (is_out ls n) ≡ true → (is_out ls n ≡ true → (j : ℕ) × ((j < length ls) × (the_loan ls n ≡ get_or ls j no_loan)))
+    go : (b : Bool) → (b || is_out ls n) ≡ true → (is_out ls n ≡ true → (j : ℕ) × ((j < length ls) × (the_loan ls n ≡ get_or ls j no_loan)))
         → (j : ℕ) × ((j < suc (length ls)) × (cond b l (the_loan ls n) ≡ get_or (l ∷ ls) j no_loan))
     go true e later = (0, (omega arith, refl))
     go false e later = let r = later e in (suc r.0, (omega (arith, r.1.0), r.1.1))

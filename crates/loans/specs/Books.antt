@@ -1,5 +1,6 @@
 -- What holds of every job's ledger.
 use Rattle.std.specs.Prelude.{◌≡◌, ℕ, ◌+◌, ◌*◌, ◌<◌, ◌≤◌, List, length, take, slice_index_or}
+use Rattle.dds.specs.declared.area.Area.{Area}
 use Rattle.loans.specs.declared.ledger.Ledger.{Ledger}
 use Rattle.loans.specs.declared.ledger.Loan.{Loan}
 
@@ -16,7 +17,7 @@ no_loan =
 
 -- the loan with so many strokes that it can undo
 abbrev pub loan_with : Loan → ℕ → Loan
-loan_with l n = record { number = l.number; borrower = l.borrower; piece = l.piece; area = l.area; strokes = n }
+loan_with l n = record l { strokes = n }
 
 -- the loans out, in the order in which they were granted
 abbrev pub outs : Ledger → List Loan
@@ -27,12 +28,13 @@ abbrev pub Balanced : Ledger → Type 0
 Balanced l =
     (length l.loans ≡ 32) × (l.out ≤ 32) × (l.granted ≤ 65535) × (l.granted ≡ l.kept + l.cancelled + l.out)
 
--- the spans of the loans out lie in a file of that length, row after row
+-- an area ends within that many bytes, and is rows one after the other
+abbrev pub LiesWithin : ℕ → Area → Type 0
+LiesWithin n a = (a.place + a.length ≤ n) × (a.length ≡ a.row_bytes * a.rows)
+
+-- the spans of the loans out lie in a file of that length
 abbrev pub Inside : ℕ → Ledger → Type 0
-Inside n l =
-    (k : ℕ) → k < l.out
-    → ((slice_index_or l.loans k no_loan).area.place + (slice_index_or l.loans k no_loan).area.length ≤ n)
-    × ((slice_index_or l.loans k no_loan).area.length ≡ (slice_index_or l.loans k no_loan).area.row_bytes * (slice_index_or l.loans k no_loan).area.rows)
+Inside n l = (k : ℕ) → k < l.out → LiesWithin n (slice_index_or l.loans k no_loan).area
 
 -- no loan out has a number above the last that was given
 abbrev pub NumbersGiven : Ledger → Type 0

@@ -7,7 +7,7 @@ use Rattle.loans.specs.declared.ledger.Loan.{Loan}
 use Rattle.loans.specs.declared.mark.Mark.{Mark}
 use Rattle.loans.specs.Lists.{less_all}
 use Rattle.loans.specs.Jobs.{Book}
-use Rattle.loans.specs.Shipping.{has_number}
+use Rattle.loans.specs.Shipping.{is_job_number}
 use Rattle.loans.specs.Stocks.{Stock, is_number, is_out, of_loan, are_ours}
 use Rattle.loans.specs.Strokes.{State, is_other_length, recounted}
 use Rattle.loans.specs.Taking.{no_mark}
@@ -21,28 +21,14 @@ bytes_of p (m ∷ ms) ks =
 -- a loan's marks and kept bytes leave the shelves
 abbrev pub stock_without : Stock → ℕ → Stock
 stock_without k n =
-    record {
-      marks = less_all (of_loan n) k.marks;
-      bytes = bytes_of (λ m. not (of_loan n m)) k.marks k.bytes;
-      most_marks = k.most_marks;
-      most_bytes = k.most_bytes;
-    }
+    record k { marks = less_all (of_loan n) k.marks; bytes = bytes_of (λ m. not (of_loan n m)) k.marks k.bytes }
 
 -- a loan is out no more; of those that ended so many more were kept, and so many more cancelled
 abbrev pub book_without : Book → ℕ → ℕ → ℕ → Book
 book_without b n kept' cancelled' =
-    record {
-      table = b.table;
-      number = b.number;
-      outs = less_all (is_number n) b.outs;
-      granted = b.granted;
-      kept = b.kept + kept';
-      cancelled = b.cancelled + cancelled';
-      marks = b.marks;
-      bytes = b.bytes;
-    }
+    record b { outs = less_all (is_number n) b.outs; kept = b.kept + kept'; cancelled = b.cancelled + cancelled' }
 
--- the first refusal that applies; a keep asks nothing of the file
+-- the first refusal that applies: a keep asks nothing of the file, and not who the borrower is
 abbrev pub keep_refusal : Book → Stock → ℕ → Option Refusal
 keep_refusal b k n =
     cond (not (is_out b.outs n)) (Some LoanNotOut)
@@ -52,12 +38,9 @@ keep_refusal b k n =
 abbrev pub kept_book : Book → Stock → ℕ → Book
 kept_book b k n = recounted (book_without b n 1 0) (stock_without k n)
 
--- the first refusal that applies; a cancel does not ask who the borrower is
+-- the first refusal that applies: a cancel asks for the file's length, and then what a keep asks
 abbrev pub cancel_refusal : State → ℕ → Option Refusal
-cancel_refusal s n =
-    cond (is_other_length s) (Some OtherLength)
-    (cond (not (is_out s.book.outs n)) (Some LoanNotOut)
-    (cond (not (are_ours s.book s.stock)) (Some ForeignShelves) None))
+cancel_refusal s n = cond (is_other_length s) (Some OtherLength) (keep_refusal s.book s.stock n)
 
 -- the file with all that a loan's strokes covered put back, the newest first
 abbrev pub restored : ℕ → List ℕ → List Mark → List ℕ → List ℕ
@@ -82,8 +65,8 @@ cancelled s n =
 
 -- the first refusal that applies
 abbrev pub scrap_refusal : State → ℕ → Option Refusal
-scrap_refusal s number' =
-    cond (not (has_number s.book.number number')) (Some OtherDocket)
+scrap_refusal s n =
+    cond (not (is_job_number s.book.number n)) (Some OtherDocket)
     (cond (is_other_length s) (Some OtherLength)
     (cond (not (are_ours s.book s.stock)) (Some ForeignShelves) None))
 

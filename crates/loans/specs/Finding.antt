@@ -1,5 +1,5 @@
 -- Where among the loans the loan of a number stands.
-use Rattle.std.specs.Prelude.{◌≡◌, ℕ, ◌<◌, true, false, List, length, get_or, Some, None, Option, slice_index_or}
+use Rattle.std.specs.Prelude.{◌≡◌, ℕ, ◌<◌, true, false, List, length, slice_index_or, Some, None, Option}
 use Rattle.loans.specs.declared.ledger.Loan.{Loan}
 use Rattle.loans.specs.Books.{no_loan}
 use Rattle.loans.specs.Stocks.{is_out, the_loan}
@@ -8,7 +8,7 @@ use Rattle.loans.specs.Stocks.{is_out, the_loan}
 pub record StandsAt (ls : List Loan) (n k : ℕ) : Type 0 where
   pub inside : k < length ls
   pub out : is_out ls n ≡ true
-  pub number : (get_or ls k no_loan).number ≡ n
+  pub number : (slice_index_or ls k no_loan).number ≡ n
   pub found : the_loan ls n ≡ slice_index_or ls k no_loan
 
 -- what looking for a number among the loans finds: where its loan stands, or that none has it

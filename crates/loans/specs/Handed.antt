@@ -9,7 +9,7 @@ use Rattle.loans.specs.Rules.{Deed, call_refusal, after}
 use Rattle.loans.specs.Rules.Deed.{lend, paint, undo, keep, cancel}
 
 -- a call with whatever file and shelves it is given
-pub record Step : Type 0 where
+pub record LaterCall : Type 0 where
   pub file : List ℕ
   pub stock : Stock
   pub deed : Deed
@@ -19,7 +19,7 @@ abbrev pub state_with : Book → List ℕ → Stock → State
 state_with b f k = record { book = b; file = f; stock = k }
 
 -- the job after calls, each with its own file and shelves
-abbrev pub later_book : Book → List Step → Book
+abbrev pub later_book : Book → List LaterCall → Book
 later_book b [] = b
 later_book b (x ∷ xs) = later_book (after (state_with b x.file x.stock) x.deed).book xs
 
@@ -40,7 +40,7 @@ pub record RefusedAsNotOut (s : State) (d : Deed) : Type 0 where
 
 -- after whatever calls, with whatever file and shelves, every call on the loan of that number is turned down
 abbrev pub HandedIn : ℕ → Book → Type 0
-HandedIn n b = (xs : List Step) (f : List ℕ) (k : Stock) (d : Deed) → is_on n d ≡ true → RefusedAsNotOut (state_with (later_book b xs) f k) d
+HandedIn n b = (xs : List LaterCall) (f : List ℕ) (k : Stock) (d : Deed) → is_on n d ≡ true → RefusedAsNotOut (state_with (later_book b xs) f k) d
 
 -- the same of a keep or cancel that was carried out
 abbrev pub HandedWhere : ℕ → Result ℕ Refusal → Book → Type 0
@@ -49,8 +49,6 @@ HandedWhere n (Err e) b = Unit {0}
 
 -- the same of any call: a keep or cancel that was carried out hands its loan in
 abbrev pub HandedBy : Deed → Result ℕ Refusal → Book → Type 0
-HandedBy (lend p who) r b = Unit {0}
-HandedBy (paint p) r b = Unit {0}
-HandedBy (undo n who) r b = Unit {0}
 HandedBy (keep n) r b = HandedWhere n r b
 HandedBy (cancel n) r b = HandedWhere n r b
+HandedBy d r b = Unit {0}

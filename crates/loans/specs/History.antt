@@ -8,7 +8,7 @@ use Rattle.dds.specs.Places.{area_in}
 use Rattle.loans.specs.declared.ledger.Loan.{Loan}
 use Rattle.loans.specs.declared.mark.Mark.{Mark}
 use Rattle.loans.specs.Lists.{less_first, less_all}
-use Rattle.loans.specs.Jobs.{Book}
+use Rattle.loans.specs.Jobs.{Book, fresh_book}
 use Rattle.loans.specs.Lending.{granting}
 use Rattle.loans.specs.Stocks.{Stock, is_number, is_out, the_loan}
 use Rattle.loans.specs.Strokes.{State, Painting, stroke_place, recounted}
@@ -34,10 +34,7 @@ history_of ds rs = written_down [] ds rs
 abbrev pub lent_after : Table → List Loan → Deed → Result ℕ Refusal → List Loan
 lent_after t ls d (Err e) = ls
 lent_after t ls (lend p who) (Ok n) = granting n p who (area_in t p) ∷ ls
-lent_after t ls (paint p) (Ok k) = ls
-lent_after t ls (undo n who) (Ok k) = ls
-lent_after t ls (keep n) (Ok k) = ls
-lent_after t ls (cancel n) (Ok k) = ls
+lent_after t ls d (Ok n) = ls
 
 -- every loan that was ever granted, also those that have ended, the newest first
 abbrev pub lent : Table → List Event → List Loan
@@ -48,10 +45,9 @@ lent t (e ∷ h) = lent_after t (lent t h) e.call e.answer
 abbrev pub out_after : Table → List Loan → Deed → Result ℕ Refusal → List Loan
 out_after t ls d (Err e) = ls
 out_after t ls (lend p who) (Ok n) = ls ++ granting n p who (area_in t p) ∷ []
-out_after t ls (paint p) (Ok k) = ls
-out_after t ls (undo n who) (Ok k) = ls
 out_after t ls (keep n) (Ok k) = less_all (is_number n) ls
 out_after t ls (cancel n) (Ok k) = less_all (is_number n) ls
+out_after t ls d (Ok k) = ls
 
 -- the loans that are out, in the order in which they were granted
 abbrev pub out_in : Table → List Event → List Loan
@@ -61,11 +57,8 @@ out_in t (e ∷ h) = out_after t (out_in t h) e.call e.answer
 -- a keep that is carried out is one more
 abbrev pub keeps_after : ℕ → Deed → Result ℕ Refusal → ℕ
 keeps_after k d (Err e) = k
-keeps_after k (lend p who) (Ok n) = k
-keeps_after k (paint p) (Ok n) = k
-keeps_after k (undo m who) (Ok n) = k
 keeps_after k (keep m) (Ok n) = k + 1
-keeps_after k (cancel m) (Ok n) = k
+keeps_after k d (Ok n) = k
 
 -- how many keeps were carried out
 abbrev pub keeps_in : List Event → ℕ
@@ -75,11 +68,8 @@ keeps_in (e ∷ h) = keeps_after (keeps_in h) e.call e.answer
 -- a cancel that is carried out is one more
 abbrev pub cancels_after : ℕ → Deed → Result ℕ Refusal → ℕ
 cancels_after k d (Err e) = k
-cancels_after k (lend p who) (Ok n) = k
-cancels_after k (paint p) (Ok n) = k
-cancels_after k (undo m who) (Ok n) = k
-cancels_after k (keep m) (Ok n) = k
 cancels_after k (cancel m) (Ok n) = k + 1
+cancels_after k d (Ok n) = k
 
 -- how many cancels were carried out
 abbrev pub cancels_in : List Event → ℕ
@@ -127,11 +117,10 @@ laying opening ls ss p =
 -- a paint lays a stroke, an undo takes back the newest of its loan, a cancel all of them; those of a kept loan stand for good
 abbrev pub standing_after : List ℕ → List Loan → List Stroke → Deed → Result ℕ Refusal → List Stroke
 standing_after opening ls ss d (Err e) = ss
-standing_after opening ls ss (lend p who) (Ok n) = ss
 standing_after opening ls ss (paint p) (Ok k) = laying opening ls ss p ∷ ss
 standing_after opening ls ss (undo n who) (Ok k) = less_first (stroke_of n) ss
-standing_after opening ls ss (keep n) (Ok k) = ss
 standing_after opening ls ss (cancel n) (Ok k) = less_all (stroke_of n) ss
+standing_after opening ls ss d (Ok k) = ss
 
 -- the strokes that stand, the newest first
 abbrev pub standing : Table → List ℕ → List Event → List Stroke
@@ -141,11 +130,8 @@ standing t opening (e ∷ h) = standing_after opening (out_in t h) (standing t o
 -- a stroke that is laid comes first, and none ever leaves
 abbrev pub laid_after : List ℕ → List Loan → List Stroke → List Stroke → Deed → Result ℕ Refusal → List Stroke
 laid_after opening ls ss old d (Err e) = old
-laid_after opening ls ss old (lend p who) (Ok n) = old
 laid_after opening ls ss old (paint p) (Ok k) = laying opening ls ss p ∷ old
-laid_after opening ls ss old (undo n who) (Ok k) = old
-laid_after opening ls ss old (keep n) (Ok k) = old
-laid_after opening ls ss old (cancel n) (Ok k) = old
+laid_after opening ls ss old d (Ok k) = old
 
 -- every stroke that was ever laid, also those that were taken back, the newest first
 abbrev pub ever_laid : Table → List ℕ → List Event → List Stroke
@@ -169,15 +155,11 @@ shelved most_marks' most_bytes' ss =
 -- the job that a history tells: the loans out, how many were granted, kept and cancelled, and the counts of these shelves
 abbrev pub told_book : Table → ℕ → List Event → Stock → Book
 told_book t number' h k =
-    recounted (record {
-      table = t;
-      number = Some number';
+    recounted (record (fresh_book t (Some number')) {
       outs = out_in t h;
       granted = length (lent t h);
       kept = keeps_in h;
       cancelled = cancels_in h;
-      marks = 0;
-      bytes = 0;
     }) k
 
 -- the shelves that it tells: they hold the strokes that stand and whose loan is out

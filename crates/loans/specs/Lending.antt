@@ -1,15 +1,13 @@
 -- What lending a piece answers and leaves.
-use Rattle.std.specs.Prelude.{◌≡◌, ℕ, ◌+◌, Bool, cond, not, ◌&&◌, List, [], ◌∷◌, ◌++◌, length, Some, None, Ok, Err, Option, Result, ◌==◌, nat_le, slice_set}
+use Rattle.std.specs.Prelude.{ℕ, ◌+◌, Bool, cond, not, ◌&&◌, List, [], ◌∷◌, ◌++◌, length, Some, None, Option, ◌==◌, nat_le}
 use Rattle.std.specs.List.{list_any}
 use Rattle.refusal.specs.declared.Refusal.{Refusal}
 use Rattle.refusal.specs.declared.Refusal.TheVariants.{NoSuchPiece, PieceOut, TooManyLoans, NumbersUsedUp}
 use Rattle.dds.specs.declared.area.Area.{Area}
 use Rattle.dds.specs.declared.piece.Piece.{Piece}
 use Rattle.dds.specs.Places.{exists_in, area_in}
-use Rattle.loans.specs.declared.job.Job.{Job}
-use Rattle.loans.specs.declared.ledger.Ledger.{Ledger}
 use Rattle.loans.specs.declared.ledger.Loan.{Loan}
-use Rattle.loans.specs.Jobs.{Book, book_of}
+use Rattle.loans.specs.Jobs.{Book}
 
 -- two pieces are the same where element, level and slice are
 abbrev pub same_piece : Piece → Piece → Bool
@@ -34,33 +32,4 @@ granting n p who a = record { number = n; borrower = who; piece = p; area = a; s
 -- one loan more, with the next number
 abbrev pub with_loan : Book → Piece → ℕ → Book
 with_loan b p who =
-    record {
-      table = b.table;
-      number = b.number;
-      outs = b.outs ++ granting (b.granted + 1) p who (area_in b.table p) ∷ [];
-      granted = b.granted + 1;
-      kept = b.kept;
-      cancelled = b.cancelled;
-      marks = b.marks;
-      bytes = b.bytes;
-    }
-
--- the same in the ledger's own memory
-abbrev pub ledger_with : Ledger → Piece → ℕ → Area → Ledger
-ledger_with l p who a =
-    record {
-      number = l.number;
-      loans = slice_set l.loans l.out (granting (l.granted + 1) p who a);
-      out = l.out + 1;
-      granted = l.granted + 1;
-      kept = l.kept;
-      cancelled = l.cancelled;
-      marks = l.marks;
-      bytes = l.bytes;
-    }
-
--- the piece is lent under the next number; a refusal changes nothing
-abbrev pub Lends : Piece → ℕ → Job → Result ℕ Refusal → Job → Type 0
-Lends p who s (Ok n) t =
-    (loan_refusal (book_of s) p ≡ None) × (n ≡ (book_of s).granted + 1) × (book_of t ≡ with_loan (book_of s) p who)
-Lends p who s (Err e) t = (loan_refusal (book_of s) p ≡ Some e) × (t ≡ s)
+    record b { outs = b.outs ++ granting (b.granted + 1) p who (area_in b.table p) ∷ []; granted = b.granted + 1 }

@@ -2,22 +2,23 @@
 use Rattle.std.specs.Prelude.{◌≡◌, ℕ, List, length, take, Some, Ok, Err, Option, Result}
 use Rattle.refusal.specs.declared.Refusal.{Refusal}
 use Rattle.formats.specs.declared.kinds.FormatName.{FormatName}
+use Rattle.dds.specs.declared.layout.Layout.{Layout}
 use Rattle.dds.specs.Layouts.{Opened, OpenedBy}
 use Rattle.loans.specs.declared.docket.Docket.{Docket}
 use Rattle.loans.specs.declared.job.Job.{Job}
 use Rattle.loans.specs.Jobs.{book_of, fresh_book}
 
--- the place holds the file's layout and no loans, whatever it held, and the docket carries the number; a refused open leaves the
--- place as it was
-abbrev pub OpenedWith : List ℕ → ℕ → (ℕ → ℕ → ℕ) → (ℕ → ℕ → ℕ) → Job → Result Docket Refusal → Job → Type 0
-OpenedWith file number row_bytes rows s (Ok d) t =
-    (d.number ≡ number) × Opened (take 148 file) (length file) row_bytes rows (Ok t.layout)
-    × (book_of t ≡ fresh_book t.layout.table (Some number))
-OpenedWith file number row_bytes rows s (Err e) t = Opened (take 148 file) (length file) row_bytes rows (Err e) × (t ≡ s)
+-- how a job is opened on a file that is read so: the place holds the file's layout and no loans, whatever it held, and the docket carries
+-- the number; a refused open leaves the place as it was
+abbrev pub JobOpened : (Result Layout Refusal → Type 0) → ℕ → Job → Result Docket Refusal → Job → Type 0
+JobOpened reads number s (Ok d) t =
+    (d.number ≡ number) × reads (Ok t.layout) × (book_of t ≡ fresh_book t.layout.table (Some number))
+JobOpened reads number s (Err e) t = reads (Err e) × (t ≡ s)
 
--- the same with a table of the codes other than DX10
+-- with a family that is handed in
+abbrev pub OpenedWith : List ℕ → ℕ → (ℕ → ℕ → ℕ) → (ℕ → ℕ → ℕ) → Job → Result Docket Refusal → Job → Type 0
+OpenedWith file number row_bytes rows s r t = JobOpened (Opened (take 148 file) (length file) row_bytes rows) number s r t
+
+-- with a table of the codes other than DX10
 abbrev pub OpenedWithCodes : List ℕ → ℕ → (ℕ → Option FormatName) → Job → Result Docket Refusal → Job → Type 0
-OpenedWithCodes file number names s (Ok d) t =
-    (d.number ≡ number) × OpenedBy (take 148 file) (length file) names (Ok t.layout)
-    × (book_of t ≡ fresh_book t.layout.table (Some number))
-OpenedWithCodes file number names s (Err e) t = OpenedBy (take 148 file) (length file) names (Err e) × (t ≡ s)
+OpenedWithCodes file number names s r t = JobOpened (OpenedBy (take 148 file) (length file) names) number s r t

@@ -35,19 +35,19 @@ call_refusal s (cancel n) = cancel_refusal s n
 
 -- what a call that is carried out leaves
 abbrev pub carried_out : State → Deed → State
-carried_out s (lend p who) = record { book = with_loan s.book p who; file = s.file; stock = s.stock }
+carried_out s (lend p who) = record s { book = with_loan s.book p who }
 carried_out s (paint p) = painted s p
 carried_out s (undo n who) = undone s n
-carried_out s (keep n) = record { book = kept_book s.book s.stock n; file = s.file; stock = stock_without s.stock n }
+carried_out s (keep n) = record s { book = kept_book s.book s.stock n; stock = stock_without s.stock n }
 carried_out s (cancel n) = cancelled s n
 
 -- the number that it answers, read off what it leaves: the loan's number, the loan's undoable strokes, or how many loans are still out
 abbrev pub number_for : State → Deed → ℕ
-number_for after (lend p who) = after.book.granted
-number_for after (paint p) = marks_of p.loan after.stock.marks
-number_for after (undo n who) = marks_of n after.stock.marks
-number_for after (keep n) = length after.book.outs
-number_for after (cancel n) = length after.book.outs
+number_for t (lend p who) = t.book.granted
+number_for t (paint p) = marks_of p.loan t.stock.marks
+number_for t (undo n who) = marks_of n t.stock.marks
+number_for t (keep n) = length t.book.outs
+number_for t (cancel n) = length t.book.outs
 
 -- the refusal that applies, or the number where none does
 abbrev pub refusal_or : Option Refusal → ℕ → Result ℕ Refusal
@@ -56,8 +56,8 @@ refusal_or (Some e) n = Err e
 
 -- what stood before where a refusal applies, else what the call leaves
 abbrev pub left : Option Refusal → State → State → State
-left None before after = after
-left (Some e) before after = before
+left None s t = t
+left (Some e) s t = s
 
 -- what a call answers: the first refusal that applies, else its number
 abbrev pub answer_to : State → Deed → Result ℕ Refusal

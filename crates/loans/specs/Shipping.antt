@@ -9,14 +9,14 @@ use Rattle.loans.specs.declared.shipping.Unspent.{Unspent}
 use Rattle.loans.specs.Jobs.{Book, book_of, empty_book, report_of}
 
 -- the job has that number; an empty job has none
-abbrev pub has_number : Option ℕ → ℕ → Bool
-has_number None n = false
-has_number (Some m) n = m == n
+abbrev pub is_job_number : Option ℕ → ℕ → Bool
+is_job_number None n = false
+is_job_number (Some m) n = m == n
 
 -- the first refusal that applies: a docket of another number, loans out
 abbrev pub ship_refusal : Book → ℕ → Option Refusal
 ship_refusal b n =
-    cond (not (has_number b.number n)) (Some OtherDocket)
+    cond (not (is_job_number b.number n)) (Some OtherDocket)
     (cond (nat_lt 0 (length b.outs)) (Some LoansOut) None)
 
 -- the job is emptied and its report answered; a refusal hands the docket back

@@ -1,12 +1,12 @@
 -- What stands on a job's shelves, and when the shelves are the job's.
 use Rattle.std.specs.Prelude.{◌≡◌, ℕ, suc, ◌+◌, Bool, true, cond, ◌&&◌, List, [], ◌∷◌, length, ◌==◌, nat_le}
-use Rattle.std.specs.List.{list_all}
+use Rattle.std.specs.List.{list_any, list_all}
 use Rattle.shelf.specs.Model.{contents, capacity_of}
 use Rattle.dds.specs.declared.area.Area.{Area}
 use Rattle.loans.specs.declared.ledger.Loan.{Loan}
 use Rattle.loans.specs.declared.mark.Mark.{Mark}
 use Rattle.loans.specs.declared.mark.Shelves.{Shelves}
-use Rattle.loans.specs.Lists.{first_or, some_of}
+use Rattle.loans.specs.Lists.{first_or}
 use Rattle.loans.specs.Books.{no_loan}
 use Rattle.loans.specs.Jobs.{Book}
 
@@ -33,7 +33,7 @@ is_number n l = n == l.number
 
 -- a loan of that number is among the loans
 abbrev pub is_out : List Loan → ℕ → Bool
-is_out ls n = some_of (is_number n) ls
+is_out ls n = list_any (is_number n) ls
 
 -- the first of the loans that has the number
 abbrev pub the_loan : List Loan → ℕ → Loan

@@ -1,5 +1,6 @@
 -- What laying a stroke and taking one back answer and leave.
 use Rattle.std.specs.Prelude.{◌≡◌, ℕ, ◌+◌, ◌*◌, ◌≤◌, Bool, true, cond, not, ◌&&◌, ◌||◌, List, [], ◌∷◌, ◌++◌, map, length, take, drop, Some, None, Ok, Err, Option, Result, ◌==◌, nat_le, nat_lt, slice_index_or}
+use Rattle.std.specs.List.{list_any}
 use Rattle.std.proofs.Math.Seq.{paste}
 use Rattle.refusal.specs.declared.Refusal.{Refusal}
 use Rattle.refusal.specs.declared.Refusal.TheVariants.{OtherLength, LoanNotOut, OtherBorrower, ForeignShelves, OutsideRow, NoSpace, NothingToUndo}
@@ -9,7 +10,6 @@ use Rattle.loans.specs.declared.job.Job.{Job}
 use Rattle.loans.specs.declared.ledger.Loan.{Loan}
 use Rattle.loans.specs.declared.mark.Mark.{Mark}
 use Rattle.loans.specs.declared.mark.Shelves.{Shelves}
-use Rattle.loans.specs.Lists.{some_of}
 use Rattle.loans.specs.Books.{no_loan, loan_with}
 use Rattle.loans.specs.Jobs.{Book, book_of}
 use Rattle.loans.specs.declared.painting.Spot.{Spot}
@@ -58,16 +58,7 @@ counted_loan ms l = loan_with l (marks_of l.number ms)
 -- the job's counts are those of the shelves
 abbrev pub recounted : Book → Stock → Book
 recounted b k =
-    record {
-      table = b.table;
-      number = b.number;
-      outs = map (counted_loan k.marks) b.outs;
-      granted = b.granted;
-      kept = b.kept;
-      cancelled = b.cancelled;
-      marks = length k.marks;
-      bytes = length k.bytes;
-    }
+    record b { outs = map (counted_loan k.marks) b.outs; marks = length k.marks; bytes = length k.bytes }
 
 -- what a paint names: the loan and who paints, the row of the piece and the row's byte where the stroke begins, and the bytes laid
 pub record Painting : Type 0 where
@@ -117,7 +108,7 @@ PaintTested s p (Err e) = paint_refusal s p ≡ Some e
 -- one mark more, and what the file held under it
 abbrev pub stock_with : Stock → Mark → List ℕ → Stock
 stock_with k m covered =
-    record { marks = k.marks ++ m ∷ []; bytes = k.bytes ++ covered; most_marks = k.most_marks; most_bytes = k.most_bytes }
+    record k { marks = k.marks ++ m ∷ []; bytes = k.bytes ++ covered }
 
 -- the shelves with the stroke's mark and the bytes that it covers
 abbrev pub painted_stock : State → Painting → Stock
@@ -136,7 +127,7 @@ painted s p =
 
 -- a mark is the newest of its loan where none behind it is of that loan
 abbrev pub is_newest : ℕ → Mark → List Mark → Bool
-is_newest n m behind = of_loan n m && not (some_of (of_loan n) behind)
+is_newest n m behind = of_loan n m && not (list_any (of_loan n) behind)
 
 -- the marks without the newest of a loan
 abbrev pub marks_less : ℕ → List Mark → List Mark
@@ -162,12 +153,7 @@ undo_refusal s n who = held_else s n who (cond (marks_of n s.stock.marks == 0) (
 -- the loan's newest mark and its kept bytes leave the shelves
 abbrev pub undone_stock : Stock → ℕ → Stock
 undone_stock k n =
-    record {
-      marks = marks_less n k.marks;
-      bytes = bytes_less n k.marks k.bytes;
-      most_marks = k.most_marks;
-      most_bytes = k.most_bytes;
-    }
+    record k { marks = marks_less n k.marks; bytes = bytes_less n k.marks k.bytes }
 
 -- the loan's newest stroke is taken back
 abbrev pub undone : State → ℕ → State

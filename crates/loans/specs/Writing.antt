@@ -1,24 +1,23 @@
 -- What a job writes down after a call that was carried out, in the ledger's own memory.
 use Rattle.std.specs.Prelude.{ℕ, ◌+◌, ◌-◌, slice_index_or, slice_set}
+use Rattle.dds.specs.declared.area.Area.{Area}
+use Rattle.dds.specs.declared.piece.Piece.{Piece}
 use Rattle.shelf.specs.Calls.{slid_down}
 use Rattle.loans.specs.declared.ending.Ending.{Ending}
 use Rattle.loans.specs.declared.ending.Ending.TheVariants.{Kept, Cancelled}
 use Rattle.loans.specs.declared.ledger.Ledger.{Ledger}
 use Rattle.loans.specs.Books.{no_loan, loan_with}
+use Rattle.loans.specs.Lending.{granting}
+
+-- one loan more, behind those out
+abbrev pub ledger_with : Ledger → Piece → ℕ → Area → Ledger
+ledger_with l p who a =
+    record l { loans = slice_set l.loans l.out (granting (l.granted + 1) p who a); out = l.out + 1; granted = l.granted + 1 }
 
 -- the loan at a position has so many strokes, and the shelves so many marks and bytes
 abbrev pub ledger_counted : Ledger → ℕ → ℕ → ℕ → ℕ → Ledger
 ledger_counted l k n marks' bytes' =
-    record {
-      number = l.number;
-      loans = slice_set l.loans k (loan_with (slice_index_or l.loans k no_loan) n);
-      out = l.out;
-      granted = l.granted;
-      kept = l.kept;
-      cancelled = l.cancelled;
-      marks = marks';
-      bytes = bytes';
-    }
+    record l { loans = slice_set l.loans k (loan_with (slice_index_or l.loans k no_loan) n); marks = marks'; bytes = bytes' }
 
 -- how many loans more were kept, where one ends so
 abbrev pub kept_by : Ending → ℕ
@@ -33,11 +32,9 @@ cancelled_by Cancelled = 1
 -- the loan at a position is out no more; those behind it move up, so many more were kept and so many more cancelled
 abbrev pub ledger_ended : Ledger → ℕ → ℕ → ℕ → ℕ → ℕ → Ledger
 ledger_ended l k kept' cancelled' marks' bytes' =
-    record {
-      number = l.number;
+    record l {
       loans = slid_down (k + 1) (l.out - (k + 1)) k l.loans;
       out = l.out - 1;
-      granted = l.granted;
       kept = l.kept + kept';
       cancelled = l.cancelled + cancelled';
       marks = marks';

@@ -1,6 +1,9 @@
 // Lending a piece.
 ghost use Rattle.std.specs.Prelude.{◌≡◌, ◌<◌};
-ghost use Rattle.loans.specs.Lending.{piece_is_out, ledger_with, Lends};
+ghost use Rattle.loans.specs.Lending.{piece_is_out};
+ghost use Rattle.loans.specs.Writing.{ledger_with};
+ghost use Rattle.loans.specs.Rules.Deed.{lend};
+ghost use Rattle.loans.specs.Calls.{CalledAlone};
 ghost use Rattle.loans.specs.Jobs.{book_of};
 
 use crate::job::Job;
@@ -55,7 +58,7 @@ impl Job {
     // Lends a piece to a borrower, and answers the loan's number. Refuses with NoSuchPiece, PieceOut, TooManyLoans or
     // NumbersUsedUp, in this order.
     pub fn loan(&mut self, piece: Piece, borrower: u32) -> Result<u32, Refusal>
-        ensures { Lends piece borrower self.old result self.new }
+        ensures { CalledAlone (lend piece borrower) self.old result self.new }
     {
         let area = self.layout.place_of(piece)?;
         if is_out(self.outs(), piece) {

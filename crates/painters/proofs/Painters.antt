@@ -1,6 +1,6 @@
 -- Which strokes stand, read from the newest call to the oldest.
-use Rattle.std.proofs.Common.{◌≡◌, ℕ, zero, suc, ◌+◌, ◌-◌, ◌<◌, ◌≤◌, min, Bool, true, false, cond, not, ◌&&◌, eqb, ◌⊎◌, List, [], ◌∷◌, ◌++◌, map, length, get_or, take, drop, Some, None, Ok, Err, Option, Result, sym, refl, ap, ◌∙◌, subst, inl, inr, ⊎_elim, arith}
-use Rattle.std.specs.List.{AllByRecursion, fold, zip}
+use Rattle.std.proofs.Common.{◌≡◌, ℕ, zero, suc, ◌+◌, ◌-◌, ◌<◌, ◌≤◌, min, Bool, true, false, cond, not, ◌&&◌, eqb, ◌⊎◌, List, [], ◌∷◌, ◌++◌, map, length, get_or, take, drop, Some, None, Ok, Err, Option, Result, sym, refl, ap, ◌∙◌, subst, inl, inr, ⊎_elim, arith, ◌||◌}
+use Rattle.std.specs.List.{list_any, AllByRecursion, fold, zip}
 use Rattle.std.proofs.lemmas.List.{drop_more, at_drop_all}
 use Rattle.std.proofs.lemmas.List.Sums.{fold-append}
 use Rattle.std.proofs.lemmas.Bool.{true≢false, cases_lt, eqb-true, eq-eqb, ne_eqb, cond-true, cond-false}
@@ -13,7 +13,7 @@ use Rattle.dds.specs.Places.{exists_in, area_in}
 use Rattle.loans.specs.declared.call.Call.{Call}
 use Rattle.loans.specs.declared.ledger.Loan.{Loan}
 use Rattle.painters.specs.declared.Painter.{Painter}
-use Rattle.loans.specs.Lists.{first_or, some_of, less_first, less_all}
+use Rattle.loans.specs.Lists.{first_or, less_first, less_all}
 use Rattle.loans.specs.Books.{no_loan}
 use Rattle.loans.specs.Stocks.{is_number, is_out, the_loan}
 use Rattle.loans.specs.Strokes.{stroke_place}
@@ -151,10 +151,10 @@ abbrev PieceFound : Table → ℕ → List Loan → Option Piece → Type 0
 PieceFound t n ls None = is_out ls n ≡ false
 PieceFound t n ls (Some p) = OutAs t n p ls
 
-first_append : {A : Type 0} (d : A) (p : A → Bool) (xs ys : List A) → first_or d p (xs ++ ys) ≡ cond (some_of p xs) (first_or d p xs) (first_or d p ys)
+first_append : {A : Type 0} (d : A) (p : A → Bool) (xs ys : List A) → first_or d p (xs ++ ys) ≡ cond (list_any p xs) (first_or d p xs) (first_or d p ys)
 first_append d p [] ys = refl
 first_append d p (x ∷ xs) ys =
-    elim (p x) as (λ b. cond b x (first_or d p (xs ++ ys)) ≡ cond (cond b true (some_of p xs)) (cond b x (first_or d p xs)) (first_or d p ys)) [ true ↦ refl | false ↦ first_append d p xs ys ]
+    elim (p x) as (λ b. cond b x (first_or d p (xs ++ ys)) ≡ cond (b || list_any p xs) (cond b x (first_or d p xs)) (first_or d p ys)) [ true ↦ refl | false ↦ first_append d p xs ys ]
 
 loan_less : (ls : List Loan) (m n : ℕ) → eqb m n ≡ false → the_loan (less_all (is_number m) ls) n ≡ the_loan ls n
 loan_less [] m n ne = refl
@@ -183,11 +183,11 @@ found_lent t n ls None x p who exists f = go (eqb n x) refl
     go : (b : Bool) → eqb n x ≡ b → PieceFound t n (ls ++ new) (cond b (Some p) None)
     go true e =
         record {
-          out = some_append (is_number n) ls new ∙ cond-false _ _ _ f ∙ cond-true _ _ _ e;
+          out = some_append (is_number n) ls new ∙ cond-false _ _ _ f ∙ ap (λ b. b || false) e;
           area = ap (λ (l : Loan). l.area) (first_append no_loan (is_number n) ls new ∙ cond-false _ _ _ f ∙ cond-true _ _ _ e);
           exists = exists;
         }
-    go false e = some_append (is_number n) ls new ∙ cond-false _ _ _ f ∙ cond-false _ _ _ e
+    go false e = some_append (is_number n) ls new ∙ cond-false _ _ _ f ∙ ap (λ b. b || false) e
 
 found_ended : (t : Table) (n : ℕ) (ls : List Loan) (o : Option Piece) (m : ℕ) → PieceFound t n ls o → PieceFound t n (less_all (is_number m) ls) (cond (eqb m n) None o)
 found_ended t n ls o m f = go (eqb m n) refl o f

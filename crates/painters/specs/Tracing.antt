@@ -56,11 +56,10 @@ owes_nothing (Some k) = k == 0
 -- what a loan owes before a call, by what it owes after it; none where its strokes are all taken back
 abbrev pub owed_before : ℕ → Option ℕ → Deed → Result ℕ Refusal → Option ℕ
 owed_before n o d (Err e) = o
-owed_before n o (lend p who) (Ok x) = o
 owed_before n o (paint p) (Ok x) = paid_off (p.loan == n) o
 owed_before n o (undo m who) (Ok x) = owing_more (m == n) o
-owed_before n o (keep m) (Ok x) = o
 owed_before n o (cancel m) (Ok x) = cond (m == n) None o
+owed_before n o d (Ok x) = o
 
 -- what a loan owes before calls
 abbrev pub owed : ℕ → List Call → List (Result ℕ Refusal) → Option ℕ
@@ -77,10 +76,9 @@ unless_out None b p = cond b (Some p) None
 abbrev pub piece_after : ℕ → Option Piece → Deed → Result ℕ Refusal → Option Piece
 piece_after n o d (Err e) = o
 piece_after n o (lend p who) (Ok x) = unless_out o (n == x) p
-piece_after n o (paint p) (Ok x) = o
-piece_after n o (undo m who) (Ok x) = o
 piece_after n o (keep m) (Ok x) = cond (m == n) None o
 piece_after n o (cancel m) (Ok x) = cond (m == n) None o
+piece_after n o d (Ok x) = o
 
 -- the piece of the loan of a number that is out after a history
 abbrev pub piece_out : ℕ → List Event → Option Piece
@@ -95,13 +93,10 @@ area_for t (Some p) = cond (exists_in t p) (area_in t p) no_loan.area
 -- who painted by a call, where its stroke lies over the byte and stands
 abbrev pub painter_by : Table → (ℕ → Option Piece) → (ℕ → Option ℕ) → ℕ → Deed → Result ℕ Refusal → Option Painter
 painter_by t pieces owes place d (Err e) = None
-painter_by t pieces owes place (lend p who) (Ok x) = None
 painter_by t pieces owes place (paint p) (Ok x) =
     cond (reach_over (stroke_place (area_for t (pieces p.loan)) p) (length p.laid) place && owes_nothing (owes p.loan))
     (Some (record { loan = p.loan; borrower = p.borrower })) None
-painter_by t pieces owes place (undo m who) (Ok x) = None
-painter_by t pieces owes place (keep m) (Ok x) = None
-painter_by t pieces owes place (cancel m) (Ok x) = None
+painter_by t pieces owes place d (Ok x) = None
 
 -- what is read where no call stands
 abbrev pub no_call : Call
