@@ -27,7 +27,7 @@ use Rattle.orders.specs.declared.day.Ending.{Ending}
 use Rattle.orders.specs.declared.day.Ending.TheVariants.{Refused, Shipped, Scrapped}
 use Rattle.orders.specs.Lines.{lines_of}
 use Rattle.orders.specs.Replies.{reply_text}
-use Rattle.orders.specs.Days.{DayInputs, MasterOpened, empty_stock, answer_lines, Closed, closing_reply, calls_in, answers_in, Worked, Ended}
+use Rattle.orders.specs.Days.{DayInputs, MasterOpened, empty_stock, answer_lines, Closed, closing_reply, calls_in, answers_in, Worked, EndedAs}
 use Rattle.orders.specs.Steps.{LinesAnswered}
 
 -- a layout has its file's length
@@ -110,7 +110,7 @@ module _ (g : DayInputs) (y : Layout) (opened : MasterOpened g (Ok y)) where
       closed = closed;
     }
 
-    pub ended : (ending : Ending) (file new' : List ℕ) → Closed s ending file → new' ≡ new ++ reply_text (closing_reply ending) → Ended g ending file new'
+    pub ended : (ending : Ending) (file new' : List ℕ) → Closed s ending file → new' ≡ new ++ reply_text (closing_reply ending) → EndedAs g ending file new'
     ended (Refused e) file new' closed printed = absurd closed
     ended Shipped file new' closed printed = worked Shipped file new' closed printed
     ended Scrapped file new' closed printed = worked Scrapped file new' closed printed

@@ -110,14 +110,14 @@ abbrev pub room_for : List ℕ → ℕ
 room_for orders = 6 * length orders + 6
 
 -- how a day within the limits ends
-abbrev pub Ended : DayInputs → Ending → List ℕ → List ℕ → Type 0
-Ended g (Refused e) file new = MasterOpened g (Err e) × TurnedAway g e file new
-Ended g Shipped file new = Worked g Shipped file new
-Ended g Scrapped file new = Worked g Scrapped file new
+abbrev pub EndedAs : DayInputs → Ending → List ℕ → List ℕ → Type 0
+EndedAs g (Refused e) file new = MasterOpened g (Err e) × TurnedAway g e file new
+EndedAs g Shipped file new = Worked g Shipped file new
+EndedAs g Scrapped file new = Worked g Scrapped file new
 
 -- what a day within the limits comes to; where the texture is not opened, six bytes are room enough
 abbrev pub Begun : {E : Type 0} → DayInputs → ℕ → ℕ → Result Ending E → List ℕ → List ℕ → Type 0
-Begun g len capacity (Ok ending) file new = Ended g ending file new
+Begun g len capacity (Ok ending) file new = EndedAs g ending file new
 Begun g len capacity (Err x) file new =
     ((e : Refusal) × MasterOpened g (Err e) × OutOfRoom g len capacity 6 file new)
     ⊎ ((y : Layout) × MasterOpened g (Ok y) × OutOfRoom g len capacity (room_for g.orders) file new)

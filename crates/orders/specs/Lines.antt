@@ -3,6 +3,7 @@ use Rattle.std.specs.Prelude.{◌≡◌, ℕ, ◌<◌, Bool, cond, List, [], ◌
 use Rattle.std.specs.List.{slice_split}
 use Rattle.orders.specs.declared.lines.Lines.{Lines}
 
+-- the byte ends a line
 abbrev pub is_end : ℕ → Bool
 is_end b = b == 10
 

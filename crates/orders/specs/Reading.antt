@@ -6,6 +6,7 @@ use Rattle.orders.specs.Spelling.{Wording}
 use Rattle.orders.specs.Spelling.Wording.{lend, lend_element, paint, undo, keep, cancel}
 use Rattle.orders.specs.Words.{value_at, hex_bytes_at}
 
+-- the byte is a space
 abbrev pub is_space : ℕ → Bool
 is_space b = b == 32
 
@@ -37,7 +38,7 @@ abbrev pub only_at : List (List ℕ) → Option ℕ
 only_at (n ∷ []) = value_at n
 only_at ws = None
 
--- the order of a line, by its letter and the words behind it
+-- the order of a line, by its letter (L, P, U, K, C) and the words behind it
 abbrev pub order_of : ℕ → List (List ℕ) → Option Wording
 order_of c ws =
     cond (c == 76) (loan_at ws)
@@ -46,10 +47,12 @@ order_of c ws =
     (cond (c == 75) (option_map keep (only_at ws))
     (cond (c == 67) (option_map cancel (only_at ws)) None))))
 
+-- by its first word, which is one letter, and the words behind it
 abbrev pub by_letter : List ℕ → List (List ℕ) → Option Wording
 by_letter (c ∷ []) ws = order_of c ws
 by_letter w ws = None
 
+-- by its words
 abbrev pub by_words : List (List ℕ) → Option Wording
 by_words [] = None
 by_words (w ∷ ws) = by_letter w ws

@@ -14,7 +14,7 @@ pub data Wording : Type 0 where
   keep : ℕ → Wording
   cancel : ℕ → Wording
 
--- L, P, U, K or C
+-- the letter of a line, by its code: 76 is L, 80 is P, 85 is U, 75 is K, 67 is C
 abbrev pub letter : Wording → ℕ
 letter (lend p who) = 76
 letter (lend_element e who) = 76
@@ -49,7 +49,7 @@ digits (cancel n) = []
 abbrev pub words : Wording → List (List ℕ)
 words o = (letter o ∷ []) ∷ map decimal (numbers o) ++ digits o
 
--- the line: its words, with one space between two
+-- the line: its words, with one space, which is 32, between two
 abbrev pub spelling : Wording → List ℕ
 spelling o = join_with_byte 32 (words o)
 

@@ -6,11 +6,12 @@ use Rattle.loans.specs.Strokes.{State}
 use Rattle.loans.specs.Rules.{Deed, answer_to, after, answers_to, after_all}
 use Rattle.orders.specs.Days.{Asks, EachAsks, answer_lines, calls_in, answers_in}
 
--- what is answered to a line, and what it leaves
+-- what is answered to a line
 abbrev pub answer_for : State → Option Deed → Result ℕ Refusal
 answer_for s None = Err MalformedOrder
 answer_for s (Some d) = answer_to s d
 
+-- what it leaves
 abbrev pub after_line : State → Option Deed → State
 after_line s None = s
 after_line s (Some d) = after s d
