@@ -48,7 +48,7 @@ pub record InRow (ls : List Loan) (s : Stroke) : Type 0 where
   pub end : s.painting.first + stroke_length s ≤ (the_loan ls s.painting.loan).area.row_bytes
   pub place : s.place ≡ stroke_place (the_loan ls s.painting.loan).area s.painting
 
--- after a history, of the job, file and shelves
+-- what holds of job, file and shelves after a history
 pub record Law (t : Table) (number most_marks most_bytes : ℕ) (opening : List ℕ) (h : List Event) (s : State) : Type 0 where
   -- job, file and shelves are what the history tells, and no more
   pub state : s ≡ told t number most_marks most_bytes opening h
