@@ -137,24 +137,24 @@ def functions_of(crate):
 # ---- bugs
 
 class Bug:
-    """A planted bug, or an edit of the gate: a file of a crate, and pairs of an old and a new text."""
+    """A planted bug, or an edit of the gate: pairs of an old and a new text, each in a file of a crate."""
 
     def __init__(self, crate, block):
-        self.crate, self.title, self.file, self.pairs = crate, "", None, []
-        old = None
+        self.crate, self.title, self.pairs = crate, "", []
+        file, old = None, None
         for line in block.splitlines():
             word, _, rest = line.partition(" ")
             if word == "#":
                 self.title = rest
             elif word == "file:":
-                self.file = rest
+                file = rest
             elif word == "old:":
                 old = rest
-            elif word == "new:" and old is not None:
-                self.pairs.append((old, rest))
+            elif word == "new:" and file and old:
+                self.pairs.append((file, old, rest))
                 old = None
             else:
-                raise ValueError(f"a line of {crate} is neither '#', 'file:', 'old:' nor the 'new:' of an 'old:': {line}")
+                raise ValueError(f"{crate}: a line begins with none of '# ', 'file: ', 'old: ' and the 'new: ' of an 'old: ': {line}")
 
     @property
     def function(self):
@@ -162,18 +162,25 @@ class Bug:
         return self.title.partition(": ")[0]
 
     def applied(self):
-        """The file's text with the bug, and in which public functions' bodies its pairs lie. Each pair applies to what those before
-        it made."""
+        """The texts of the files with the bug, and in which public functions' bodies its pairs lie. Each pair applies to what those
+        before it made."""
         names = exported(self.crate)
-        text = (ROOT / "crates" / self.crate / self.file).read_text()
+        folder = ROOT / "crates" / self.crate
+        texts = {file: (folder / file).read_text() for file, _, _ in self.pairs}
+        was = dict(texts)
         touched = set()
-        for old, new in self.pairs:
+        for file, old, new in self.pairs:
+            text = texts[file]
             if text.count(old) != 1:
-                raise ValueError(f"'{old}' stands in {self.file} {text.count(old)} times, and not once")
+                raise ValueError(f"'{old}' stands in {file} {text.count(old)} times, and not once")
             place = text.index(old)
             touched |= {name for name, begin, end in functions_in(text, names) if begin <= place and place + len(old) <= end}
-            text = text.replace(old, new)
-        return text, touched
+            texts[file] = text.replace(old, new)
+        if texts == was:
+            raise ValueError("it changes nothing")
+        if self.title and self.function not in touched:
+            raise ValueError("it lies not in that function's body")
+        return texts, touched
 
 
 def planted_in(crate):
@@ -185,8 +192,8 @@ def planted_in(crate):
 
 def edits_in(crate):
     """The edits of the gate that change a file of src/."""
-    edits = [Bug(crate, path.read_text().rstrip("\n")) for path in sorted((ROOT / "crates" / crate / "must-fail").glob("*.edit"))]
-    return [edit for edit in edits if edit.file.startswith("src/")]
+    edits = [Bug(crate, path.read_text()) for path in sorted((ROOT / "crates" / crate / "must-fail").glob("*.edit"))]
+    return [edit for edit in edits if all(file.startswith("src/") for file, _, _ in edit.pairs)]
 
 
 # ---- counting
@@ -205,13 +212,10 @@ def count(crates):
                 try:
                     touched = bug.applied()[1]
                 except (ValueError, OSError) as error:
-                    print(f"{crate}: BAD {bug.title or bug.file}: {error}")
+                    print(f"{crate}: BAD {bug.title or bug.pairs}: {error}")
                     is_well = False
                     continue
-                if bug.title and bug.function not in touched:
-                    print(f"{crate}: BAD {bug.title}: it lies not in that function's body")
-                    is_well = False
-                for name in touched:
+                for name in [bug.function] if bug.title else touched:
                     counts[name] += 1
         for name, where in functions.items():
             few = gate[name] + planted[name] < WANTED
@@ -232,9 +236,9 @@ def copied(to):
     shutil.copytree(ROOT, to, ignore=skip)
 
 
-def checked(folder):
-    """What `rt check` in a crate's folder says, and its status."""
-    ran = subprocess.run(["rt", "check"], cwd=folder, stdin=subprocess.DEVNULL, stdout=subprocess.PIPE, stderr=subprocess.STDOUT, errors="replace")
+def checked(folder, jobs):
+    """What `rt check` in a crate's folder says, with so many processes of its own, and its status."""
+    ran = subprocess.run(["rt", "check", "--jobs", str(jobs)], cwd=folder, stdin=subprocess.DEVNULL, stdout=subprocess.PIPE, stderr=subprocess.STDOUT, errors="replace")
     return ran.stdout, ran.returncode
 
 
@@ -270,24 +274,21 @@ def verdict(said, status):
 
 def tried(bug, copy, kept):
     """Tries a bug on a copy, whose check begins with what was kept of the crate as it stands, and puts all back."""
-    if not bug.file or not bug.pairs:
-        return "BAD", "it has no file or no pair"
     try:
-        text, touched = bug.applied()
+        texts, _ = bug.applied()
     except (ValueError, OSError) as error:
         return "BAD", str(error)
-    if bug.function not in touched:
-        return "BAD", "it lies not in that function's body"
     folder = copy / "crates" / bug.crate
-    path = folder / bug.file
-    was = path.read_text()
+    was = {file: (folder / file).read_text() for file in texts}
     shutil.rmtree(folder / "out/incremental", ignore_errors=True)
     shutil.copytree(kept / "crates" / bug.crate / "out/incremental", folder / "out/incremental")
-    path.write_text(text)
     try:
-        return verdict(*checked(folder))
+        for file, text in texts.items():
+            (folder / file).write_text(text)
+        return verdict(*checked(folder, 1))
     finally:
-        path.write_text(was)
+        for file, text in was.items():
+            (folder / file).write_text(text)
 
 
 def try_all(bugs, jobs):
@@ -298,7 +299,7 @@ def try_all(bugs, jobs):
         kept = pathlib.Path(room, "kept")
         copied(kept)
         for crate in dict.fromkeys(bug.crate for bug in bugs):
-            said, status = checked(kept / "crates" / crate)
+            said, status = checked(kept / "crates" / crate, jobs)
             if status:
                 sys.exit(f"{said}\n{crate} is not proved as it stands")
         print(f"proved as it stands, in {time.time() - began:.0f} s", flush=True)
