@@ -242,12 +242,13 @@ def checked(folder, jobs):
     return ran.stdout, ran.returncode
 
 
-# What rt prints of a text that it cannot compile (error[name]), or that the prover cannot read.
+# What rt prints of a text that it cannot compile.
 NOT_COMPILED = re.compile(r".*\berror\[[\w-]+\].*")
-NOT_READ = re.compile(r"(?:\./)?src/\S+:\d+:\d+: error: .*|.*\b(?:is not in scope|has no field|is no name|operand is missing|expected the end|cannot continue)\b.*")
-# What rt prints of a fact of the code that no longer holds, or of a written proof of one.
-NOT_PROVED = re.compile(r"note: (src/\S+:\d+:\d+: it is not proved .*)")
-NOT_SHOWN = re.compile(r"(?:\./)?(proofs/\S+:\d+:\d+: error: .*)")
+# What it prints of a fact of the code that is not proved.
+NOT_PROVED = re.compile(r"note: (src/\S+:\d+:\d+: (?:it is not proved|`search` found no proof) .*)")
+# What it prints of a written proof that fails. One that names what the bug took away shows nothing of the fact.
+NOT_SHOWN = re.compile(r"(?:\./)?(proofs/\S+:\d+:\d+: error: (?!.*(?:has no field|has no `|is not in scope|was not admitted)).*)")
+FAILED = re.compile(r"(.*: error: .*|fn .*: no proof: .*)")
 
 
 def verdict(said, status):
@@ -265,11 +266,11 @@ def verdict(said, status):
     if fact:
         values = any("allow values at which this goal is false" in line for line in lines if NOT_PROVED.match(line))
         return "refused", ("false: " if values else "") + re.sub(r"; the facts known there .*|; `search` .*", "", fact[1])
-    bad = first(NOT_READ)
-    if bad:
-        return "BAD", bad[0]
     shown = first(NOT_SHOWN)
-    return ("refused", shown[1]) if shown else ("BAD", "no fact is named")
+    if shown:
+        return "refused", shown[1]
+    bad = first(FAILED)
+    return "BAD", f"no fact is named: {bad[0] if bad else lines[-1]}"
 
 
 def tried(bug, copy, kept):
