@@ -229,11 +229,31 @@ def count(crates):
 
 # ---- trying
 
-def copied(to):
-    """A copy of the repository as it stands, with what rt keeps of the libraries' checks (out/)."""
-    others = {f"{ROOT}/crates/{name}" for name in os.listdir(ROOT / "crates") if name not in LIBRARIES}
-    skip = lambda folder, names: [it for it in names if it in (".git", "target") or it == "out" and folder in others]
-    shutil.copytree(ROOT, to, ignore=skip)
+def below(crate):
+    """The crates that a crate uses, also through others, by crates.txt."""
+    lines = (line.partition(":") for line in (ROOT / "crates.txt").read_text().splitlines() if not line.startswith("#"))
+    uses = {name.split()[0]: rest.split() for name, _, rest in lines if name.strip()}
+    found = set()
+    left = [crate]
+    while left:
+        more = set(uses.get(left.pop(), [])) - found
+        found |= more
+        left += more
+    return found
+
+
+def copied(to, crates):
+    """Makes a copy of the repository as it stands. Of what rt keeps of checks (out/), it has that of the crates and of those below."""
+    wanted = {str(ROOT / "crates" / name) for crate in crates for name in (crate, *below(crate))}
+    shutil.copytree(ROOT, to, ignore=lambda folder, names: [name for name in names if name in (".git", "target") or name == "out" and folder not in wanted])
+
+
+def linked(one, other):
+    """Copies a file to a job's copy: what was proved by a link, since a check replaces such a file and changes none."""
+    if one.endswith(".oantt"):
+        os.link(one, other)
+    else:
+        shutil.copy2(one, other)
 
 
 def checked(folder, jobs):
@@ -249,6 +269,8 @@ NOT_PROVED = re.compile(r"note: (src/\S+:\d+:\d+: (?:it is not proved|`search` f
 # What it prints of a written proof that fails. One that names what the bug took away shows nothing of the fact.
 NOT_SHOWN = re.compile(r"(?:\./)?(proofs/\S+:\d+:\d+: error: (?!.*(?:has no field|has no `|is not in scope|was not admitted)).*)")
 FAILED = re.compile(r"(.*: error: .*|fn .*: no proof: .*)")
+# What is said of a fact that the check found values against.
+FALSE = "false: "
 
 
 def verdict(said, status):
@@ -265,7 +287,7 @@ def verdict(said, status):
     fact = first(NOT_PROVED)
     if fact:
         values = any("allow values at which this goal is false" in line for line in lines if NOT_PROVED.match(line))
-        return "refused", ("false: " if values else "") + re.sub(r"; the facts known there .*|; `search` .*", "", fact[1])
+        return "refused", (FALSE if values else "") + re.sub(r"; the facts known there .*|; `search` .*", "", fact[1])
     shown = first(NOT_SHOWN)
     if shown:
         return "refused", shown[1]
@@ -282,7 +304,7 @@ def tried(bug, copy, kept):
     folder = copy / "crates" / bug.crate
     was = {file: (folder / file).read_text() for file in texts}
     shutil.rmtree(folder / "out/incremental", ignore_errors=True)
-    shutil.copytree(kept / "crates" / bug.crate / "out/incremental", folder / "out/incremental")
+    shutil.copytree(kept / "crates" / bug.crate / "out/incremental", folder / "out/incremental", copy_function=linked)
     try:
         for file, text in texts.items():
             (folder / file).write_text(text)
@@ -295,19 +317,22 @@ def tried(bug, copy, kept):
 def try_all(bugs, jobs):
     """Tries the bugs, several at once, each job on a copy of its own. Returns whether all were refused."""
     began = time.time()
-    found = {"refused": 0, "PASSED": 0, "BAD": 0}
+    found, false = {"refused": 0, "PASSED": 0, "BAD": 0}, 0
     with tempfile.TemporaryDirectory(prefix="planted-") as room:
         kept = pathlib.Path(room, "kept")
-        copied(kept)
-        for crate in dict.fromkeys(bug.crate for bug in bugs):
+        crates = list(dict.fromkeys(bug.crate for bug in bugs))
+        copied(kept, crates)
+        for crate in crates:
             said, status = checked(kept / "crates" / crate, jobs)
             if status:
                 sys.exit(f"{said}\n{crate} is not proved as it stands")
         print(f"proved as it stands, in {time.time() - began:.0f} s", flush=True)
         copies = queue.Queue()
         for number in range(jobs):
-            shutil.copytree(kept, pathlib.Path(room, str(number)))
-            copies.put(pathlib.Path(room, str(number)))
+            copy = pathlib.Path(room, str(number))
+            # What was kept of a crate's own check is put there anew before each try.
+            shutil.copytree(kept, copy, ignore=shutil.ignore_patterns("incremental"), copy_function=linked)
+            copies.put(copy)
 
         def one(bug):
             copy = copies.get()
@@ -319,9 +344,11 @@ def try_all(bugs, jobs):
         with concurrent.futures.ThreadPoolExecutor(jobs) as pool:
             for bug, (kind, why) in zip(bugs, pool.map(one, bugs)):
                 found[kind] += 1
+                false += why.startswith(FALSE)
                 print(f"{kind} {bug.crate} {bug.title}: {why}", flush=True)
-    taken = time.time() - began
-    print(f"{len(bugs)} bugs: {', '.join(f'{much} {kind}' for kind, much in found.items())}; {taken // 60:.0f} min {taken % 60:.0f} s with {jobs} jobs")
+    minutes, seconds = divmod(round(time.time() - began), 60)
+    told = ", ".join(f"{much} {kind}" for kind, much in found.items())
+    print(f"{len(bugs)} bugs: {told}, {false} of the refused with values that break the fact; {minutes} min {seconds} s with {jobs} jobs")
     return found["refused"] == len(bugs)
 
 
