@@ -1,6 +1,7 @@
 # What the repository does: `make demo` shows it on sample data, `make test` is the gate, `make bench` measures it,
-# `make robust` tries the programs where something is wrong around them, `make fmt` formats the sources.
-.PHONY: demo test bench robust fmt
+# `make robust` tries the programs where something is wrong around them, `make planted` tries the planted bugs, which the proofs must
+# refuse, `make fmt` formats the sources.
+.PHONY: demo test bench robust planted fmt
 
 SAMPLES = crates/samples/data
 
@@ -26,6 +27,10 @@ bench: target/bin/bench
 
 robust: target/bin/cuivakko target/bin/pieces target/bin/retouch
 	tools/robust.sh target/bin
+
+# Three bugs in each public function, with the edits of the gate.
+planted:
+	tools/plant_bugs.py --count && tools/plant_bugs.py
 
 fmt:
 	for crate in crates/*; do (cd $$crate && rt fmt) || exit 1; done
