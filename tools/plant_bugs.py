@@ -5,14 +5,18 @@ usage: tools/plant_bugs.py [CRATE..] [--only WORD] [--jobs N] [--count]
 
 planted/CRATE.txt has the bugs of a library crate, in blocks with a blank line between them:
 
-    # Layout::length: the end of the pixel data       the function in whose body the bug lies, and what is wrong
-    file: src/layout.rt                               the file, in the crate's folder
-    old: self.table.length                            a text that stands in that file exactly once
-    new: self.table.pixel_end                         what stands there instead; more pairs may follow
+    # Layout::length: the bytes of an element
+    file: src/layout.rt
+    old: self.table.length
+    new: self.table.stride
+
+The first line has the function in whose body the bug lies, and what is wrong; the others the file, in the crate's folder, a text that
+stands in it exactly once, and what stands there instead. More pairs of an old and a new text may follow, each applied to what those
+before it made.
 
 Each bug is tried on a copy of the repository, alone, and `rt check` judges it:
 
-    refused   a fact no longer holds; the line that says which follows, and 'false' if the check found values that break it
+    refused   a fact is no longer proved; the line that says which follows, after 'false' if the check found values that break it
     PASSED    the crate is still proved: its contracts let the bug through
     BAD       nothing is shown: the bug cannot be applied or read or lies elsewhere, or the check fell for another reason
 
@@ -30,6 +34,7 @@ import pathlib
 import queue
 import re
 import shutil
+import signal
 import subprocess
 import sys
 import tempfile
@@ -245,7 +250,11 @@ def below(crate):
 def copied(to, crates):
     """Makes a copy of the repository as it stands. Of what rt keeps of checks (out/), it has that of the crates and of those below."""
     wanted = {str(ROOT / "crates" / name) for crate in crates for name in (crate, *below(crate))}
-    shutil.copytree(ROOT, to, ignore=lambda folder, names: [name for name in names if name in (".git", "target") or name == "out" and folder not in wanted])
+
+    def left_out(folder, names):
+        return [name for name in names if name in (".git", "target") or name == "out" and folder not in wanted]
+
+    shutil.copytree(ROOT, to, ignore=left_out)
 
 
 def linked(one, other):
@@ -258,7 +267,8 @@ def linked(one, other):
 
 def checked(folder, jobs):
     """What `rt check` in a crate's folder says, with so many processes of its own, and its status."""
-    ran = subprocess.run(["rt", "check", "--jobs", str(jobs)], cwd=folder, stdin=subprocess.DEVNULL, stdout=subprocess.PIPE, stderr=subprocess.STDOUT, errors="replace")
+    how = {"stdin": subprocess.DEVNULL, "stdout": subprocess.PIPE, "stderr": subprocess.STDOUT, "errors": "replace"}
+    ran = subprocess.run(["rt", "check", "--jobs", str(jobs)], cwd=folder, **how)
     return ran.stdout, ran.returncode
 
 
@@ -267,7 +277,8 @@ NOT_COMPILED = re.compile(r".*\berror\[[\w-]+\].*")
 # What it prints of a fact of the code that is not proved.
 NOT_PROVED = re.compile(r"note: (src/\S+:\d+:\d+: (?:it is not proved|`search` found no proof) .*)")
 # What it prints of a written proof that fails. One that names what the bug took away shows nothing of the fact.
-NOT_SHOWN = re.compile(r"(?:\./)?(proofs/\S+:\d+:\d+: error: (?!.*(?:has no field|has no `|is not in scope|was not admitted)).*)")
+NAME_AWAY = r"has no field|has no `|is not in scope|was not admitted"
+NOT_SHOWN = re.compile(rf"(?:\./)?(proofs/\S+:\d+:\d+: error: (?!.*(?:{NAME_AWAY})).*)")
 FAILED = re.compile(r"(.*: error: .*|fn .*: no proof: .*)")
 # What is said of a fact that the check found values against.
 FALSE = "false: "
@@ -317,6 +328,8 @@ def tried(bug, copy, kept):
 def try_all(bugs, jobs):
     """Tries the bugs, several at once, each job on a copy of its own. Returns whether all were refused."""
     began = time.time()
+    # The copies go away also where the run is ended from outside.
+    signal.signal(signal.SIGTERM, lambda *_: sys.exit(143))
     found, false = {"refused": 0, "PASSED": 0, "BAD": 0}, 0
     with tempfile.TemporaryDirectory(prefix="planted-") as room:
         kept = pathlib.Path(room, "kept")
@@ -366,6 +379,8 @@ def main():
     if given.count:
         return count(crates)
     bugs = [bug for crate in crates for bug in planted_in(crate) if given.only in bug.title]
+    if not bugs:
+        words.error("no planted bug is of that name")
     return try_all(bugs, given.jobs)
 
 
