@@ -1,5 +1,5 @@
 #!/usr/bin/env python3
-"""Writes crates/pieces/data/master.dds, the texture of the worked example in docs/ORDERS.md: DXT1, 4 by 4, three levels, 152 bytes."""
+"""Writes crates/cuivakko/data/master.dds, the texture of the worked example in docs/ORDERS.md: DXT1, 4 by 4, three levels, 152 bytes."""
 import pathlib
 import struct
 
@@ -10,6 +10,6 @@ head += struct.pack('<II4s5I', 32, 0x4, b'DXT1', 0, 0, 0, 0, 0)
 head += struct.pack('<5I', COMPLEX | TEXTURE | MIPMAP, 0, 0, 0, 0)
 assert len(head) == 128
 blocks = b''.join(struct.pack('<HHI', 0xf800, 0x001f, pattern) for pattern in (0xe4e4e4e4, 0x50505050, 0))
-path = pathlib.Path(__file__).resolve().parent.parent / 'crates/pieces/data/master.dds'
+path = pathlib.Path(__file__).resolve().parent.parent / 'crates/cuivakko/data/master.dds'
 path.parent.mkdir(exist_ok=True)
 path.write_bytes(head + blocks)
