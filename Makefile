@@ -28,7 +28,7 @@ bench: target/bin/bench
 robust: target/bin/cuivakko target/bin/pieces target/bin/retouch
 	tools/robust.sh target/bin
 
-# Three bugs in each public function, with the edits of the gate.
+# At least three bugs in each public function, with the edits of the gate, but for those of planted/FEWER.txt.
 planted:
 	tools/plant_bugs.py --count && tools/plant_bugs.py
 

@@ -18,7 +18,7 @@ Each bug is tried on a copy of the repository, alone, and `rt check` judges it:
 
     refused   a fact is no longer proved; the line that says which follows, after 'false' if the check found values that break it
     PASSED    the crate is still proved: its contracts let the bug through
-    BAD       nothing is shown: the bug cannot be applied or read or lies elsewhere, or the check fell for another reason
+    BAD       nothing is shown: the bug cannot be applied or lies elsewhere, or the check fell for another reason
 
 It ends with status 1 where a bug PASSED or is BAD. --only tries those with WORD in their first line. --jobs is how many checks
 run at once, 2 if it is not given.
@@ -184,7 +184,7 @@ class Bug:
         if texts == was:
             raise ValueError("it changes nothing")
         if self.title and self.function not in touched:
-            raise ValueError("it lies not in that function's body")
+            raise ValueError("it does not lie in that function's body")
         return texts, touched
 
 
@@ -226,8 +226,13 @@ def count(crates):
             few = gate[name] + planted[name] < WANTED
             told = f": fewer: {fewer[name]}" if few and name in fewer else ": FEWER THAN THREE" if few else ""
             is_well &= not few or name in fewer
+            if few:
+                fewer.pop(name, None)
             print(f"{crate} {name} ({where}): {gate[name]} of the gate, {planted[name]} planted{told}")
         total = [one + more for one, more in zip(total, (len(functions), sum(gate.values()), sum(planted.values())))]
+    for name in fewer if crates == LIBRARIES else ():
+        print(f"planted/FEWER.txt: {name} has enough, or is no public function")
+        is_well = False
     print(f"{total[0]} public functions; in their bodies {total[1]} edits of the gate and {total[2]} planted bugs")
     return is_well
 

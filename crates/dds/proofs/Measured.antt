@@ -19,7 +19,7 @@ use Rattle.dds.specs.Plans.{Plan, plan_of, size_at, end_of, stride_of, begin_at}
 use Rattle.dds.specs.Pieces.{Placed, FitsPlan, Exists, pieces_of}
 use Rattle.dds.specs.Layouts.{Fits, Opened, OpenedAs, OpenedIn, OpenedBy, Turned, refusal_of, first_refusal, err_of, pieces_in}
 use Rattle.dds.specs.Places.{Stands}
-use Rattle.dds.specs.Figures.{Says, AcceptedWith, Whose, Figures, level_of}
+use Rattle.dds.specs.Figures.{Says, AcceptedWith, Whose, Figures, image_of}
 use Rattle.dds.proofs.Fitting.{pieces_fit, fits_only}
 use Rattle.dds.proofs.Tiles.{piece_stands, pieces_between}
 use Rattle.dds.proofs.Placing.{tiled}
@@ -164,10 +164,10 @@ unfolding plan_for fine longest_chain
 figures = record {
   plain = λ h s head e. accepts refl h s head 262271 e refl (λ _. Unit {0}) (λ _ _ _. tt);
   one_more = λ h s head e. refuses refl h s head 262272 e (λ end. omega arith);
-  last_byte = λ h s head e. accepts refl h s head 11080 e refl (Whose 11063 (Ok (Some (level_of 6, 7))))
-      (λ layout is n. whose_piece layout _ is (level_of 6) (lit< tt, lit< tt, lit< tt) 11063 7 refl (lit< tt));
-  next_byte = λ h s head e. accepts refl h s head 11080 e refl (Whose 11064 (Ok (Some (level_of 7, 0))))
-      (λ layout is n. whose_piece layout _ is (level_of 7) (lit< tt, lit< tt, lit< tt) 11064 0 refl (lit< tt));
+  last_byte = λ h s head e. accepts refl h s head 11080 e refl (Whose 11063 (Ok (Some (image_of 6, 7))))
+      (λ layout is n. whose_piece layout _ is (image_of 6) (lit< tt, lit< tt, lit< tt) 11063 7 refl (lit< tt));
+  next_byte = λ h s head e. accepts refl h s head 11080 e refl (Whose 11064 (Ok (Some (image_of 7, 0))))
+      (λ layout is n. whose_piece layout _ is (image_of 7) (lit< tt, lit< tt, lit< tt) 11064 0 refl (lit< tt));
   header_byte = λ h s head e. accepts refl h s head 11080 e refl (Whose 127 (Ok None))
       (λ layout is n. whose_header layout _ is 127 (lit< tt) (omega arith));
   past_end = λ h s head e. accepts refl h s head 11080 e refl (Whose 11080 (Err PastFileEnd))

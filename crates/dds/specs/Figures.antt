@@ -46,15 +46,15 @@ abbrev pub Whose : ℕ → Result (Option (Piece × ℕ)) Refusal → Layout →
 Whose place answer layout = (r : Result (Option (Piece × ℕ)) Refusal) → WhoseIs layout place r → r ≡ answer
 
 -- the one image of a level of the first element
-abbrev pub level_of : ℕ → Piece
-level_of n = record { element = 0; level = n; slice = 0 }
+abbrev pub image_of : ℕ → Piece
+image_of n = record { element = 0; level = n; slice = 0 }
 
 -- the twelve figures
 pub record Figures : Type 0 where
   pub plain : Opens 256 256 9 128 (Flat 1) (Linear 24) 262271
   pub one_more : Answers 256 256 9 128 (Flat 1) (Linear 24) 262272 (λ r. r ≡ Err WrongEnd)
-  pub last_byte : Answers 256 64 9 128 (Flat 1) (Block 8) 11080 (AcceptedWith (Whose 11063 (Ok (Some (level_of 6, 7)))))
-  pub next_byte : Answers 256 64 9 128 (Flat 1) (Block 8) 11080 (AcceptedWith (Whose 11064 (Ok (Some (level_of 7, 0)))))
+  pub last_byte : Answers 256 64 9 128 (Flat 1) (Block 8) 11080 (AcceptedWith (Whose 11063 (Ok (Some (image_of 6, 7)))))
+  pub next_byte : Answers 256 64 9 128 (Flat 1) (Block 8) 11080 (AcceptedWith (Whose 11064 (Ok (Some (image_of 7, 0)))))
   pub header_byte : Answers 256 64 9 128 (Flat 1) (Block 8) 11080 (AcceptedWith (Whose 127 (Ok None)))
   pub past_end : Answers 256 64 9 128 (Flat 1) (Block 8) 11080 (AcceptedWith (Whose 11080 (Err PastFileEnd)))
   pub extended : Opens 256 64 9 148 (Flat 1) (Block 16) 22052

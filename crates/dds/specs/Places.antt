@@ -42,11 +42,11 @@ pub record AreaOf (layout : Layout) (p : Piece) (a : Area) : Type 0 where
   pub rows : a.rows ≡ (get_or layout.table.levels p.level blank).rows
   pub length : a.length ≡ a.row_bytes * a.rows
 
--- the same by a table's numbers: whether a piece exists
+-- whether a piece exists, by a table's numbers
 abbrev pub exists_in : Table → Piece → Bool
 exists_in t p = nat_lt p.element t.elements && (nat_lt p.level t.level_count && nat_lt p.slice (slices_in t p.level))
 
--- the area of a piece
+-- the area of a piece, by a table's numbers
 abbrev pub area_in : Table → Piece → Area
 area_in t p =
     record {
@@ -56,7 +56,7 @@ area_in t p =
       rows = (get_or t.levels p.level blank).rows;
     }
 
--- where a piece is; refused where there is no such piece
+-- the answer to where a piece stands, by a table's numbers
 abbrev pub where_in : Table → Piece → Result Area Refusal
 where_in t p = cond (exists_in t p) (Ok (area_in t p)) (Err NoSuchPiece)
 

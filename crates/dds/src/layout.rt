@@ -15,7 +15,7 @@ pub struct Layout {
 }
 
 impl Layout {
-    // The layout of no file: no elements, so no pieces, and no bytes. Its one level holds nothing.
+    // The layout of no file: no elements, so no pieces, and no bytes. Its one level, of one pixel of one byte, is nobody's.
     pub fn empty() -> Layout
         ensures { result.table ≡ empty_table }
     {

@@ -85,7 +85,7 @@ impl Layout {
     }
 
     // The piece that has the byte at a place, and the byte's offset in it; none where the byte is of no piece, as in the header.
-    // One division finds the element, a pass over its levels the level. Refuses with PastFileEnd.
+    // One division finds the element, a pass over its levels the level, and a second division the slice. Refuses with PastFileEnd.
     pub fn piece_at(&self, place: u64) -> Result<Option<(Piece, u32)>, Refusal>
         ensures value { WhoseIs self.now place result }
         ensures tiled { Tiled self.now }

@@ -15,7 +15,7 @@ const DX10: u32 = 0x3031_5844;
 // The pixel flag under which the code decides the format.
 const FOURCC: u32 = 0x4;
 
-// The shortest and the longest file, and the shortest with an extended header.
+// The shortest file, the shortest with an extended header, and the longest.
 const SHORTEST: u64 = 128;
 
 const SHORTEST_EXTENDED: u64 = 148;

@@ -1,4 +1,4 @@
--- What keeping and cancelling a loan, and scrapping a job, answer and leave.
+-- What keeping and cancelling a loan answer and leave, when a scrap is refused, and what cancelling all loans leaves.
 use Rattle.std.specs.Prelude.{ℕ, ◌+◌, ◌<◌, ◌≤◌, Bool, cond, not, List, [], ◌∷◌, ◌++◌, length, take, drop, Some, None, Option, slice_index_or}
 use Rattle.std.proofs.Math.Seq.{paste}
 use Rattle.refusal.specs.declared.Refusal.{Refusal}

@@ -1,4 +1,4 @@
--- What opening a job answers and leaves, and where, whose and show on a job.
+-- What opening a job answers and leaves.
 use Rattle.std.specs.Prelude.{◌≡◌, ℕ, List, length, take, Some, Ok, Err, Option, Result}
 use Rattle.refusal.specs.declared.Refusal.{Refusal}
 use Rattle.formats.specs.declared.kinds.FormatName.{FormatName}

@@ -73,7 +73,8 @@ fault_text NoMemory = codes "no memory for the answers"
 abbrev pub Untouched : Ordered → Job → Job → List ℕ → Shelves → List (Result ℕ Refusal) → Type 0
 Untouched o j j' f' v' new = (j' ≡ j) × (f' ≡ o.file) × (v' ≡ o.shelves) × (new ≡ o.old)
 
--- want of memory comes only where the Vec's capacity was too small for what stands in it and the answers
+-- a run that was made; or nothing changed, where the file is refused, whatever memory there is, or where memory is wanting, which comes
+-- only where the Vec's capacity was too small for what stands in it and the answers
 abbrev pub Ran : Ordered → ℕ → ℕ → Job → Result Docket RunFault → Job → List ℕ → Shelves → List (Result ℕ Refusal) → Type 0
 Ran o len room j (Ok d) j' f' v' new = RanSo o d (state_of j' f' v') new
 Ran o len room j (Err (Refused e)) j' f' v' new = FileOpened o (Err e) × Untouched o j j' f' v' new

@@ -18,12 +18,12 @@ pub record Tally (ls : List Loan) (ms : List Mark) (n : ℕ) (counts : List ℕ)
   pub size : length counts ≡ 32
   pub counted : (k : ℕ) → k < length ls → slice_index counts k ≡ marks_of (slice_index_or ls k no_loan).number ms
 
--- the one or the other is not so
+-- the counts of the marks; none where a mark is not sound or they do not cover so many bytes together
 abbrev pub Tallied : List Loan → List Mark → ℕ → Option (List ℕ) → Type 0
 Tallied ls ms n (Some counts) = Tally ls ms n counts
 Tallied ls ms n None = (all_sound ls ms && lengths ms == n) ≡ false
 
--- each loan's strokes are counted at its position
+-- each loan has as many strokes as were counted at its position
 abbrev pub agree : List Loan → List ℕ → Bool
 agree [] cs = true
 agree (l ∷ ls) [] = false

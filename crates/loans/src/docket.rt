@@ -24,6 +24,7 @@ impl Drop for Docket {
 }
 
 impl Docket {
+    // A docket of a number, not spent.
     pub(crate) fn of(number: u32) -> Docket
         ensures number { result.number ≡ number }
         ensures unspent { result.spent ≡ false }

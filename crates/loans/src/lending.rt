@@ -17,7 +17,7 @@ const MOST_OUT: u32 = 32;
 const MOST_GRANTED: u32 = 65535;
 
 // One of the loans has the piece.
-fn is_out(loans: &[Loan], piece: Piece) -> bool
+fn piece_is_out(loans: &[Loan], piece: Piece) -> bool
     ensures { result ≡ piece_is_out loans.now piece }
 {
     loans.iter().any(|loan| loan.piece == piece)
@@ -61,7 +61,7 @@ impl Job {
         ensures { CalledAlone (lend piece borrower) self.old result self.new }
     {
         let area = self.layout.place_of(piece)?;
-        if is_out(self.outs(), piece) {
+        if piece_is_out(self.outs(), piece) {
             return Err(Refusal::PieceOut);
         }
         if self.ledger.out >= MOST_OUT {

@@ -21,7 +21,7 @@ pub struct Shelves<'a> {
 }
 
 impl<'a> Shelves<'a> {
-    // A job can be given any two shelves; it looks at them before each call.
+    // The two shelves as they are. A job can be given any: a call that needs its own refuses others with ForeignShelves.
     pub fn of(marks: Shelf<'a, Mark>, bytes: Shelf<'a, u8>) -> Shelves<'a>
         ensures marks { result.marks ≡ marks.entry }
         ensures bytes { result.bytes ≡ bytes.entry }
@@ -29,12 +29,14 @@ impl<'a> Shelves<'a> {
         Shelves { marks, bytes }
     }
 
+    // The shelf of marks.
     pub fn marks(&self) -> &Shelf<'a, Mark>
         ensures { result.now ≡ self.now.marks }
     {
         &self.marks
     }
 
+    // The shelf of kept bytes.
     pub fn bytes(&self) -> &Shelf<'a, u8>
         ensures { result.now ≡ self.now.bytes }
     {

@@ -55,7 +55,8 @@ impl Job {
         Ok(Docket::of(number))
     }
 
-    // Opens a file by the format that its header names, with a table of the codes other than DX10.
+    // Opens a file by the format that its header names, with a table of the codes other than DX10, whatever the job held. Refuses as
+    // Layout::read does, and then changes nothing.
     pub fn open<T: CodeTable>(
         &mut self,
         file: &[u8],

@@ -50,6 +50,7 @@ impl Shelves<'_> {
         requires { lacks_space (stock_of self.old) (length covered.now) ≡ false }
         ensures { stock_of self.new ≡ stock_with (stock_of self.old) mark covered.now }
     {
+        // neither refuses: there is space for both
         let _ = self.marks.put(mark);
         let _ = self.bytes.put_all(covered);
     }

@@ -120,7 +120,8 @@ impl Shelves<'_> {
 }
 
 // Opens a job on a file with a family that is handed in, makes the calls in order on it and the shelves, puts an answer for each
-// behind those in the Vec, and gives the docket. Where the file is refused or there is no memory for the answers, nothing changes.
+// behind those in the Vec, and gives the docket. Refuses as Layout::read_with does; then with NoMemory, where there is no memory for the
+// answers. Either way nothing changes.
 // Shelves that are empty at first are the job's all along, so that no call has to look through them.
 pub fn run<F: Family>(
     job: &mut Job,

@@ -19,6 +19,7 @@ impl Job {
     {
         while self.ledger.out > 0 {
             let first = self.loan_at(0).number;
+            // it does not refuse: file and shelves are the job's
             let _ = self.cancel_on(file, shelves, first, true);
         }
     }

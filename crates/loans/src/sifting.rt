@@ -62,6 +62,7 @@ impl Shelves<'_> {
         requires { CanSlide (stock_of self.old) behind run stays }
         ensures { stock_of self.new ≡ stock_slid (stock_of self.old) behind run stays }
     {
+        // neither refuses: the run stands on the shelves, and goes down
         let _ = self.marks.slide(behind.marks, run.marks, stays.marks);
         let _ = self.bytes.slide(behind.bytes, run.bytes, stays.bytes);
     }
@@ -88,6 +89,7 @@ impl Shelves<'_> {
                 passed = passed.and(run);
             }
         }
+        // neither refuses: no more stays than stood there
         let _ = self.marks.truncate(stays.marks);
         let _ = self.bytes.truncate(stays.bytes);
     }

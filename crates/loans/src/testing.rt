@@ -47,7 +47,7 @@ fn tally(loans: &[Loan], marks: &[Mark], covered: usize) -> Option<[u32; 32]>
 }
 
 // Each loan has as many strokes as were counted at its position.
-fn do_agree(loans: &[Loan], counts: &[u32]) -> bool
+fn counts_agree(loans: &[Loan], counts: &[u32]) -> bool
     requires { length loans.now ≤ length counts.now }
     ensures { result ≡ agree loans.now counts.now }
 {
@@ -69,7 +69,7 @@ impl Job {
         }
         // tried as is_some_and: the check does not learn from the closure that its answer is that of all the marks
         match tally(self.outs(), marks, covered) {
-            Some(counts) => do_agree(self.outs(), &counts),
+            Some(counts) => counts_agree(self.outs(), &counts),
             None => false,
         }
     }

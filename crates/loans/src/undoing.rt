@@ -58,6 +58,7 @@ impl Shelves<'_> {
         let mark = self.marks.elements()[position];
         let end = begin + mark.length;
         lay(file, mark.place, &self.bytes.elements()[begin..end]);
+        // neither refuses: mark and bytes stand on the shelves
         let _ = self.marks.take_off(position, 1);
         let _ = self.bytes.take_off(begin, mark.length);
     }

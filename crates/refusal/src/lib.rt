@@ -1,5 +1,5 @@
-// Why a call is turned down. A refusal leaves everything as it was; docs/REFUSALS.md has each number's meaning, the calls
-// that give it, and the order in which they test.
+// Why a call is turned down. A refusal leaves everything as it was, but that a refused scrap takes its docket; docs/REFUSALS.md has each
+// number's meaning, the calls that give it, and the order in which they test.
 #![tactic(auto)]
 
 ghost use Rattle.std.specs.Prelude.{◌≡◌, Some};

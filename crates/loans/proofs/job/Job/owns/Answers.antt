@@ -13,7 +13,7 @@ pub returns-in-Some : goal.returns-in-Some
 returns-in-Some c =
     let v : Shelf ℕ = c.bytes.result.now in
     owned c.args.self.now c.args.shelves.now c.outs.result.now c.outs-in-Some.result.now c.elements-marks.result.now
-    c.count-covered.result c.in-Some.counts c.do_agree.result c.outs.ensures c.outs-in-Some.ensures
+    c.count-covered.result c.in-Some.counts c.counts_agree.result c.outs.ensures c.outs-in-Some.ensures
     (c.elements-marks.ensures.value ∙ ap contents c.marks.ensures)
     (c.count-covered.ensures.value ∙ sym (counted v) ∙ ap (λ (x : Shelf ℕ). length (contents x)) c.bytes.ensures)
-    c.if-marks-self.false c.if-covered-self.false c.in-Some.ensures c.do_agree.ensures
+    c.if-marks-self.false c.if-covered-self.false c.in-Some.ensures c.counts_agree.ensures

@@ -3,7 +3,7 @@ use Rattle.std.proofs.lemmas.Iterator.{YieldsList-from_slice, YieldsList-from_zi
 use Rattle.std.proofs.lemmas.Iterator.Search.{all_from_yields_List}
 use Rattle.loans.specs.declared.ledger.Loan.{Loan}
 use Rattle.loans.proofs.Tallying.{agree_all}
-use Rattle.loans.proofs.testing.do_agree.Goals as goal
+use Rattle.loans.proofs.testing.counts_agree.Goals as goal
 
 pub returns : goal.returns
 returns c =

@@ -3,7 +3,7 @@ use Rattle.std.proofs.lemmas.Iterator.{YieldsList-from_slice}
 use Rattle.std.proofs.lemmas.Iterator.Search.{any_from_yields_List}
 use Rattle.loans.specs.declared.ledger.Loan.{Loan}
 use Rattle.loans.specs.Lending.{same_piece}
-use Rattle.loans.proofs.lending.is_out.Goals as goal
+use Rattle.loans.proofs.lending.piece_is_out.Goals as goal
 
 pub returns : goal.returns
 returns c =
