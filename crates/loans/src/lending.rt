@@ -23,36 +23,31 @@ fn piece_is_out(loans: &[Loan], piece: Piece) -> bool
     loans.iter().any(|loan| loan.piece == piece)
 }
 
+impl Ledger {
+    // Writes down one loan more.
+    fn add_loan(&mut self, piece: Piece, borrower: u32, area: Area)
+        requires room { self.old.out < 32 }
+        requires numbers { self.old.granted < 65535 }
+        ensures { self.new ≡ ledger_with self.old piece borrower area }
+    {
+        self.granted += 1;
+        self.loans[self.out as usize] = Loan {
+            number: self.granted,
+            borrower,
+            piece,
+            area,
+            strokes: 0,
+        };
+        self.out += 1;
+    }
+}
+
 impl Job {
     // The loans out, in the order in which they were granted.
     pub(crate) fn outs(&self) -> &[Loan]
         ensures { result.now ≡ (book_of self.now).outs }
     {
         &self.ledger.loans[0..self.ledger.out as usize]
-    }
-
-    // The job's ledger with one loan more.
-    fn with_loan(&self, piece: Piece, borrower: u32, area: Area) -> Ledger
-        requires room { self.now.ledger.out < 32 }
-        requires numbers { self.now.ledger.granted < 65535 }
-        ensures { result ≡ ledger_with self.now.ledger piece borrower area }
-    {
-        let ledger = &self.ledger;
-        let number = ledger.granted + 1;
-        let mut loans = ledger.loans;
-        loans[ledger.out as usize] = Loan {
-            number,
-            borrower,
-            piece,
-            area,
-            strokes: 0,
-        };
-        Ledger {
-            loans,
-            out: ledger.out + 1,
-            granted: number,
-            ..*ledger
-        }
     }
 
     // Lends a piece to a borrower, and answers the loan's number. Refuses with NoSuchPiece, PieceOut, TooManyLoans or
@@ -70,7 +65,7 @@ impl Job {
         if self.ledger.granted >= MOST_GRANTED {
             return Err(Refusal::NumbersUsedUp);
         }
-        self.ledger = self.with_loan(piece, borrower, area);
+        self.ledger.add_loan(piece, borrower, area);
         Ok(self.ledger.granted)
     }
 }
