@@ -87,15 +87,15 @@ impl Header {
         self.pixel_flags & FOURCC != 0
     }
 
-    // The code is the letters DX10, and it counts: more fields follow, and pixel data begin behind them.
+    /// The code is the letters DX10, and it counts: more fields follow, and pixel data begin behind them.
     pub fn is_extended(&self) -> bool
         ensures { result ≡ is_extended self.now }
     {
         self.code_decides() && self.code == DX10
     }
 
-    // The header of a file, from its head and its length. Refuses with WrongLength, WrongMagic, WrongHeaderSize or
-    // ShortExtendedHeader, in this order.
+    /// The header of a file, from its head and its length. Refuses with WrongLength, WrongMagic, WrongHeaderSize or
+    /// ShortExtendedHeader, in this order.
     pub fn read(head: FileHead<'_>) -> Result<Header, Refusal>
         ensures { result ≡ header_read head.entry.bytes.now head.entry.length }
     {
@@ -114,7 +114,7 @@ impl Header {
         Ok(header)
     }
 
-    // The format that the header names, with a table for the codes other than DX10.
+    /// The format that the header names, with a table for the codes other than DX10.
     pub fn format<T: CodeTable>(&self, codes: &T) -> Option<Format>
         ensures { option_map name_of result ≡ header_name (T.name_at codes.now) self.now }
     {
