@@ -45,7 +45,7 @@ IsExtended = HasCode 0x30315844
 abbrev pub IsPlain : List ℕ → Type 0
 IsPlain head = (is_set (number_at head 80) 0x4 ≡ false) ⊎ (number_at head 84 ≢ 0x30315844)
 
--- an extended header with one of these DXGI codes
+-- an extended header with one of these DXGI codes: BC3 has 76 to 78, BC6H 94 to 96
 pub record HasDxgi (first last : ℕ) (head : List ℕ) : Type 0 where
   pub extended : IsExtended head
   pub not_below : first ≤ number_at head 128
@@ -108,7 +108,7 @@ Plain24 head = Begins 256 256 9 head × (HasBits 24 head × FlatCaps head)
 abbrev pub PlainDxt1 : List ℕ → Type 0
 PlainDxt1 head = Begins 256 64 9 head × (IsDxt1 head × FlatCaps head)
 
--- 256 by 64, BC3, extended header, nine levels
+-- 256 by 64, BC3 in an extended header, nine levels
 abbrev pub ExtendedBc3 : List ℕ → Type 0
 ExtendedBc3 head = Begins 256 64 9 head × (HasDxgi 76 78 head × HasArray 3 false 1 head)
 
@@ -116,7 +116,7 @@ ExtendedBc3 head = Begins 256 64 9 head × (HasDxgi 76 78 head × HasArray 3 fal
 abbrev pub Volume24 : List ℕ → Type 0
 Volume24 head = Begins 64 64 7 head × (HasBits 24 head × (VolumeCaps head × HasDepth 4 head))
 
--- cubes of 256 by 256, BC6H, nine levels
+-- cubes of 256 by 256, BC6H in an extended header, nine levels
 abbrev pub CubesBc6h : ℕ → List ℕ → Type 0
 CubesBc6h array_size head = Begins 256 256 9 head × (HasDxgi 94 96 head × HasArray 3 true array_size head)
 
