@@ -57,7 +57,8 @@ impl Layout {
     // The layout of a file whose header was read. Refuses as `read_shape` does, then with WrongEnd.
     fn behind<F: Family>(head: FileHead<'_>, header: &Header, family: &F) -> Result<Layout, Refusal>
         requires { header_read head.bytes.now head.length ≡ Ok header.now }
-        ensures { Opened head.entry.bytes.now head.entry.length (F.row_bytes family.now) (F.rows family.now) result }
+        ensures { Opened head.entry.bytes.now head.entry.length
+            (F.row_bytes family.now) (F.rows family.now) result }
     {
         let shape = header.read_shape()?;
         let table = table_of(header, shape, head.length, family);
@@ -71,7 +72,8 @@ impl Layout {
     /// WrongLength, WrongMagic, WrongHeaderSize, ShortExtendedHeader, NoShape, OutOfRange, TooManyLevels or WrongEnd, in this
     /// order.
     pub fn read_with<F: Family>(head: FileHead<'_>, family: &F) -> Result<Layout, Refusal>
-        ensures { Opened head.entry.bytes.now head.entry.length (F.row_bytes family.now) (F.rows family.now) result }
+        ensures { Opened head.entry.bytes.now head.entry.length
+            (F.row_bytes family.now) (F.rows family.now) result }
     {
         let header = Header::read(head)?;
         Layout::behind(head, &header, family)

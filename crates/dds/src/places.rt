@@ -24,7 +24,8 @@ impl Layout {
     fn level_holding(&self, offset: u64) -> usize
         ensures within { result < self.now.table.level_count }
         ensures begun { (get_or self.now.table.levels result blank).begin ≤ offset }
-        ensures last { result + 1 < self.now.table.level_count → offset < (get_or self.now.table.levels (result + 1) blank).begin }
+        ensures last { result + 1 < self.now.table.level_count
+            → offset < (get_or self.now.table.levels (result + 1) blank).begin }
     {
         let mut begun = 0;
         for level in self.levels() {
@@ -61,7 +62,10 @@ impl Layout {
 
     /// A level of the table, if there is one of that number.
     pub fn level(&self, number: u32) -> Option<Level>
-        ensures { MatchOption result (self.now.table.level_count ≤ number) (λ l. (number < self.now.table.level_count) × (l ≡ slice_index_or self.now.table.levels number blank)) }
+        ensures { MatchOption result
+            (self.now.table.level_count ≤ number)
+            (λ l. (number < self.now.table.level_count)
+            × (l ≡ slice_index_or self.now.table.levels number blank)) }
     {
         self.levels().get(number as usize).copied()
     }

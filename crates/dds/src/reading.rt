@@ -48,7 +48,9 @@ fn number_at(bytes: &[u8], place: usize) -> u32
 
 // What follows the four bytes that every DDS file begins with; none where others stand there.
 fn after_magic(head: &[u8]) -> Option<&[u8]>
-    ensures { MatchOption result (has_magic head.now ≡ false) (λ rest. (has_magic head.now ≡ true) × (rest.now ≡ drop 4 head.now)) }
+    ensures { MatchOption result
+        (has_magic head.now ≡ false)
+        (λ rest. (has_magic head.now ≡ true) × (rest.now ≡ drop 4 head.now)) }
 {
     match head {
         [0x44, 0x44, 0x53, 0x20, rest @ ..] => Some(rest),

@@ -1,5 +1,6 @@
 // Where the last piece of a file ends, found by walking over the pieces: two steps that hand over to each other, the form that
-// docs/ARCHITECTURE.md gives the walk. Each level has a slice, so that the step over one leaves fewer pieces.
+// docs/ARCHITECTURE.md gives the walk. Each level has a slice, so that the step over one leaves fewer pieces. A hand-over is the last
+// thing that a step does, so it is compiled to a jump, and the stack does not grow.
 ghost use Rattle.std.specs.Prelude.{◌≡◌, ◌+◌, ◌*◌, ◌^◌, ◌<◌};
 ghost use Rattle.dds.specs.LevelEnds.{Sliced, total_of};
 
