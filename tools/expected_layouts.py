@@ -6,7 +6,7 @@ They are computed here from first principles, and not by the library's formulas:
     pixel of a row or a column lies in;
   - a file's pieces by walking: element after element, level after level, slice after slice, each piece where the one before
     it ended; a file's length is where the last one ends;
-  - the refusal of each header is written down by hand, next to what is wrong with it.
+  - the number of each header's refusal is written down by hand, next to what is wrong with it.
 Run rt fmt afterwards.
 """
 import functools
@@ -66,7 +66,8 @@ for base in BASES.values():
 
 
 def pieces(base, changes, name):
-    """All pieces in the order of the file: number, (element, level, slice), place, length, row bytes, rows, width, height."""
+    """All pieces in the order of the file: number, (element, level, slice), place, length, and of its level the width, the height,
+    the slices, the row bytes, the rows and the place of its first byte in its element."""
     fields = {**base.fields, **changes}
     extended = fields[PIXEL_FLAGS] & FOURCC and fields.get(CODE, 0) == letters('DX10')
     elements = base.elements if not extended or base.kind == 'volume' else fields[ARRAY]
@@ -75,12 +76,14 @@ def pieces(base, changes, name):
     place = 148 if extended else 128
     out = []
     for element in range(elements):
+        first = place
         width, height, depth = fields[WIDTH], fields[HEIGHT], fields[DEPTH] if base.kind == 'volume' else 1
         for level in range(fields[LEVELS] if fields[LEVELS] else 1):
             row, count = row_bytes(name, width), rows(name, height)
             length = sum(row for y in range(count))
+            begin = place - first
             for slice in range(depth):
-                out.append((len(out), (element, level, slice), place, length, row, count, width, height))
+                out.append((len(out), (element, level, slice), place, length, (width, height, depth, row, count, begin)))
                 place += length
             width, height, depth = [side // 2 if side > 1 else 1 for side in (width, height, depth)]
     return out
@@ -102,7 +105,7 @@ def group(name):
 
 
 def case(what, base, changes, number, length=None, handed=None, name=None, more=0):
-    """A header and its refusal, 0 where it is accepted; `handed`: the refusal where the family is handed in."""
+    """A header and its refusal's number, 0 where it is accepted; `handed`: the number where the family is handed in."""
     b = BASES[base]
     if length is None:
         length = length_of(b, changes if number == 0 else {}, name or b.name) + more
@@ -266,15 +269,6 @@ def format_name(name):
     return 'FormatName::Paired' if name[0] == 'Paired' else f'FormatName::{name[0]}({name[1]})'
 
 
-# The refusals by their numbers.
-REFUSALS = ['', 'WrongLength', 'WrongMagic', 'WrongHeaderSize', 'ShortExtendedHeader', 'UnknownFormat', 'NoShape', 'OutOfRange',
-            'TooManyLevels', 'WrongEnd']
-
-
-def refusal(number):
-    return f'Some(Refusal::{REFUSALS[number]})' if number else 'None'
-
-
 def entry(kind, what, base, changes):
     """Begins a line of a table: what it tries, the base head and what is changed in it."""
     changed = ', '.join(f'Change {{ place: {place}, value: {value} }}' for place, value in changes.items())
@@ -285,15 +279,23 @@ def table(title, kind, lines):
     return ['', f'pub const {title}: [{kind}; {len(lines)}] = [', *lines, '];']
 
 
+def sides(base, changes):
+    fields = {**BASES[base].fields, **changes}
+    return f'width: {fields[WIDTH]}, height: {fields[HEIGHT]}, levels: {fields[LEVELS] if fields[LEVELS] else 1}'
+
+
+def sextuple(level):
+    return 'Level {{ width: {}, height: {}, slices: {}, row_bytes: {}, rows: {}, begin: {} }}'.format(*level)
+
+
 def triple(piece):
     return 'Piece {{ element: {}, level: {}, slice: {} }}'.format(*piece)
 
 
 out = [
     '// Written by tools/expected_layouts.py, which says how the values were computed.',
-    'use dds::Piece;',
+    'use dds::{Level, Piece};',
     'use formats::FormatName;',
-    'use refusal::Refusal;',
     '',
     '// A word of a head that is changed: its place in the file, and what stands there.',
     'pub struct Change {',
@@ -301,27 +303,28 @@ out = [
     '    pub value: u32,',
     '}',
     '',
-    '// A header, and its refusal: by the format that the header names, and with the format handed in.',
+    "// A header, its sides and levels, and its refusal's number, 0 where it is accepted: by the format that the header names, and with",
+    '// the format handed in.',
     'pub struct Case {',
     "    pub what: &'static str,",
     "    pub base: &'static [u32; 37],",
     "    pub changes: &'static [Change],",
     '    pub length: u64,',
     '    pub format: FormatName,',
-    '    pub refusal: Option<Refusal>,',
-    '    pub handed: Option<Refusal>,',
+    '    pub width: u32,',
+    '    pub height: u32,',
+    '    pub levels: u32,',
+    '    pub refusal: u32,',
+    '    pub handed: u32,',
     '}',
     '',
-    '// A piece, with its number in the order of the file.',
+    '// A piece, with its number in the order of the file, and its level.',
     'pub struct Spot {',
     '    pub number: u64,',
     '    pub piece: Piece,',
-    '    pub width: u32,',
-    '    pub height: u32,',
     '    pub place: u64,',
     '    pub length: u64,',
-    '    pub row_bytes: u32,',
-    '    pub rows: u32,',
+    '    pub level: Level,',
     '}',
     '',
     '// Whose byte stands at a place: the piece, and the offset in it.',
@@ -337,7 +340,9 @@ out = [
     "    pub base: &'static [u32; 37],",
     "    pub changes: &'static [Change],",
     '    pub length: u64,',
+    '    pub format: FormatName,',
     '    pub begin: u64,',
+    '    pub levels: u32,',
     '    pub pieces: u64,',
     "    pub spots: &'static [Spot],",
     "    pub bytes: &'static [Byte],",
@@ -351,7 +356,7 @@ out.pop()
 for title, cases in GROUPS.items():
     out += table(title, 'Case', [
         entry('Case', what, base, changes)
-        + f'length: {length}, format: {format_name(name)}, refusal: {refusal(number)}, handed: {refusal(handed)} }},'
+        + f'length: {length}, format: {format_name(name)}, {sides(base, changes)}, refusal: {number}, handed: {handed} }},'
         for what, base, changes, length, name, number, handed in cases])
 samples = []
 for what, base, changes, name in SAMPLES:
@@ -359,16 +364,16 @@ for what, base, changes, name in SAMPLES:
     every = pieces(b, changes, name or b.name)
     places = {}
     spots = []
-    for number, piece, place, length, row, count, width, height in (every[k] for k in sorted({0, len(every) // 2, len(every) - 1})):
-        spots.append(f'Spot {{ number: {number}, piece: {triple(piece)}, width: {width}, height: {height}, '
-                     f'place: {place}, length: {length}, row_bytes: {row}, rows: {count} }}')
+    for number, piece, place, length, level in (every[k] for k in sorted({0, len(every) // 2, len(every) - 1})):
+        spots.append(f'Spot {{ number: {number}, piece: {triple(piece)}, place: {place}, length: {length}, level: {sextuple(level)} }}')
         places[place] = (piece, 0)
         places[place + length - 1] = (piece, length - 1)
         if number + 1 < len(every):
             places[place + length] = (every[number + 1][1], 0)
     bytes_at = [f'Byte {{ place: {place}, piece: {triple(piece)}, offset: {offset} }}' for place, (piece, offset) in sorted(places.items())]
     samples.append(entry('Sample', what, base, changes)
-                   + f'length: {every[-1][2] + every[-1][3]}, begin: {every[0][2]}, pieces: {len(every)}, '
+                   + f'length: {every[-1][2] + every[-1][3]}, format: {format_name(name or b.name)}, begin: {every[0][2]}, '
+                   + f'levels: {every[-1][1][1] + 1}, pieces: {len(every)}, '
                    + f'spots: &[{", ".join(spots)}], bytes: &[{", ".join(bytes_at)}] }},')
 out += table('SAMPLES', 'Sample', samples)
 path = pathlib.Path(__file__).resolve().parent.parent / 'crates/dds_tests/src/expected.rt'

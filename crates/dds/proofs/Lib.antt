@@ -10,4 +10,5 @@ mod Tiles
 pub mod Placing
 mod Spotting
 mod Numbering
+mod Fields
 mod Measured

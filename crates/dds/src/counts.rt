@@ -39,14 +39,14 @@ impl Layout {
         None
     }
 
-    // How many pieces there are.
+    /// How many pieces there are.
     pub fn piece_count(&self) -> u64
         ensures { result ≡ length (pieces_in self.now) }
     {
         self.table.elements as u64 * self.pieces_per_element()
     }
 
-    // The piece with that number, counted from 0 in the order of the file; none past the last.
+    /// The piece with that number, counted from 0 in the order of the file; none past the last.
     pub fn piece_number(&self, number: u64) -> Option<Piece>
         ensures { result ≡ piece_numbered self.now number }
     {

@@ -10,7 +10,11 @@ use formats::Family;
 impl Sides {
     // The sides of the next level: halved, and at least 1.
     fn halved(self) -> Sides
-        ensures { result ≡ record { width = max (self.width / 2) 1; height = max (self.height / 2) 1; depth = max (self.depth / 2) 1 } }
+        ensures { result ≡ record {
+          width = max (self.width / 2) 1;
+          height = max (self.height / 2) 1;
+          depth = max (self.depth / 2) 1;
+        } }
     {
         Sides {
             width: (self.width / 2).max(1),
@@ -22,7 +26,9 @@ impl Sides {
 
 // The level that has these sides and begins there.
 fn level_of<F: Family>(family: &F, sides: Sides, begin: u64) -> Level
-    ensures { result ≡ level_with (extent_of (F.row_bytes family.now) (F.rows family.now) sides.width sides.height) sides begin }
+    ensures { result ≡ level_with
+        (extent_of (F.row_bytes family.now) (F.rows family.now) sides.width sides.height)
+        sides begin }
 {
     let extent = family.ask(sides.width, sides.height);
     Level {

@@ -1,7 +1,7 @@
 // What is read of a file to open it.
 ghost use Rattle.std.specs.Prelude.{◌≡◌, length, take};
 
-// A file's head, which is its first 148 bytes or the whole of a shorter one, and the file's length.
+/// A file's head, which is its first 148 bytes or the whole of a shorter one, and the file's length.
 #[derive(Clone, Copy)]
 pub struct FileHead<'a> {
     pub bytes: &'a [u8],
@@ -9,7 +9,7 @@ pub struct FileHead<'a> {
 }
 
 impl<'a> FileHead<'a> {
-    // The head of a file that is all in memory.
+    /// The head of a file that is all in memory.
     pub fn of(file: &'a [u8]) -> FileHead<'a>
         ensures head { result.bytes.now ≡ take 148 file.now }
         ensures length { result.length ≡ length file.now }

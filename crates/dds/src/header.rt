@@ -1,7 +1,7 @@
 // The fields of a DDS header that count.
 
-// The header as it stands in the file. The last four fields are those of the extended header; where the header is plain,
-// they hold whatever stands there, and do not count.
+/// The header as it stands in the file. The last four fields are those of the extended header; where the header is plain,
+/// they hold whatever stands there, and do not count.
 #[derive(Clone, Copy, PartialEq, Eq, Debug)]
 pub struct Header {
     pub header_size: u32,

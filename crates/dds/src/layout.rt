@@ -5,7 +5,7 @@ ghost use Rattle.dds.specs.Sound.{Counted, Chained, Ended, empty_table};
 use crate::level::Level;
 use crate::table::Table;
 
-// Where all pieces of an accepted file stand: a table in which they follow one another without a gap.
+/// Where all pieces of an accepted file stand: a table in which they follow one another without a gap.
 #[derive(Clone, Copy)]
 pub struct Layout {
     pub(crate) table: Table,
@@ -15,7 +15,7 @@ pub struct Layout {
 }
 
 impl Layout {
-    // The layout of no file: no elements, so no pieces, and no bytes. Its one level, of one pixel of one byte, is nobody's.
+    /// The layout of no file: no elements, so no pieces, and no bytes. Its one level, of one pixel of one byte, is nobody's.
     pub fn empty() -> Layout
         ensures { result.table ≡ empty_table }
     {
@@ -41,7 +41,7 @@ impl Layout {
         }
     }
 
-    // The length of its file, in bytes.
+    /// The length of its file, in bytes.
     pub fn length(&self) -> u64
         ensures { result ≡ self.now.table.length }
     {

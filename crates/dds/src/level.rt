@@ -2,8 +2,8 @@
 ghost use Rattle.std.specs.Prelude.{◌≡◌, ◌*◌, ◌^◌, ◌<◌};
 ghost use Rattle.dds.specs.LevelEnds.{level_end};
 
-// A level: the sides of its images, how many slices it has, what each image takes, and where the level begins in its
-// element, counted in bytes from the element's first. The default, which is all zeros, stands in a table behind its last level.
+/// A level: the sides of its images, how many slices it has, what each image takes, and where the level begins in its
+/// element, counted in bytes from the element's first. The default, which is all zeros, stands in a table behind its last level.
 #[derive(Clone, Copy, PartialEq, Eq, Debug, Default)]
 pub struct Level {
     pub width: u32,
@@ -15,7 +15,7 @@ pub struct Level {
 }
 
 impl Level {
-    // The bytes of one image.
+    /// The bytes of one image.
     pub fn piece_length(&self) -> u64
         ensures { result ≡ self.now.row_bytes * self.now.rows }
     {

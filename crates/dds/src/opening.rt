@@ -12,12 +12,12 @@ use crate::layout::Layout;
 use crate::level::Level;
 use crate::shape::Shape;
 use crate::table::{Sides, Table};
-use crate::walk::level_step;
+use crate::walk::element_step;
 use formats::{CodeTable, Family};
 use refusal::Refusal;
 
 impl Header {
-    // Where pixel data begin.
+    /// Where pixel data begin.
     pub fn pixel_begin(&self) -> u64
         ensures { result ≡ pixel_begin self.now }
     {
@@ -41,7 +41,7 @@ fn table_of<F: Family>(header: &Header, shape: Shape, length: u64, family: &F) -
     let stride = fill_levels(family, sides, filled);
     let pixel_begin = header.pixel_begin();
     let elements = shape.elements();
-    let pixel_end = level_step(filled, elements, pixel_begin);
+    let pixel_end = element_step(filled, elements, pixel_begin);
     Table {
         levels,
         level_count,
@@ -57,7 +57,8 @@ impl Layout {
     // The layout of a file whose header was read. Refuses as `read_shape` does, then with WrongEnd.
     fn behind<F: Family>(head: FileHead<'_>, header: &Header, family: &F) -> Result<Layout, Refusal>
         requires { header_read head.bytes.now head.length ≡ Ok header.now }
-        ensures { Opened head.entry.bytes.now head.entry.length (F.row_bytes family.now) (F.rows family.now) result }
+        ensures { Opened head.entry.bytes.now head.entry.length
+            (F.row_bytes family.now) (F.rows family.now) result }
     {
         let shape = header.read_shape()?;
         let table = table_of(header, shape, head.length, family);
@@ -67,18 +68,19 @@ impl Layout {
         Ok(Layout { table })
     }
 
-    // The layout of a file for any family, from the file's head and its length. No format table is read. Refuses with
-    // WrongLength, WrongMagic, WrongHeaderSize, ShortExtendedHeader, NoShape, OutOfRange, TooManyLevels or WrongEnd, in this
-    // order.
+    /// The layout of a file for any family, from the file's head and its length. No format table is read. Refuses with
+    /// WrongLength, WrongMagic, WrongHeaderSize, ShortExtendedHeader, NoShape, OutOfRange, TooManyLevels or WrongEnd, in this
+    /// order.
     pub fn read_with<F: Family>(head: FileHead<'_>, family: &F) -> Result<Layout, Refusal>
-        ensures { Opened head.entry.bytes.now head.entry.length (F.row_bytes family.now) (F.rows family.now) result }
+        ensures { Opened head.entry.bytes.now head.entry.length
+            (F.row_bytes family.now) (F.rows family.now) result }
     {
         let header = Header::read(head)?;
         Layout::behind(head, &header, family)
     }
 
-    // The layout of a file by the format that its header names, with a table of the codes other than DX10. Refuses as
-    // `read_with` does, and with UnknownFormat right after ShortExtendedHeader.
+    /// The layout of a file by the format that its header names, with a table of the codes other than DX10. Refuses as
+    /// `read_with` does, and with UnknownFormat right after ShortExtendedHeader.
     pub fn read<T: CodeTable>(head: FileHead<'_>, codes: &T) -> Result<Layout, Refusal>
         ensures { OpenedBy head.entry.bytes.now head.entry.length (T.name_at codes.now) result }
     {

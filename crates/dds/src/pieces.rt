@@ -6,15 +6,15 @@ ghost use Rattle.dds.specs.Counts.{pieces_left, names_in};
 use crate::layout::Layout;
 use crate::piece::Piece;
 
-// All pieces of a layout, in the order of the file.
-#[derive(Clone, Drop)]
+/// All pieces of a layout, in the order of the file.
+#[derive(Drop)]
 pub struct Pieces<'a> {
     layout: &'a Layout,
     next: u64,
 }
 
 impl Layout {
-    // All pieces, in the order of the file.
+    /// All pieces, in the order of the file.
     pub fn pieces(&self) -> Pieces<'_>
         ensures { pieces_left result ≡ names_in self.now }
     {

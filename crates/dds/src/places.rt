@@ -10,7 +10,7 @@ use crate::level::Level;
 use crate::piece::Piece;
 use refusal::Refusal;
 
-// Where a byte lies in its element: a level, a slice of it, and the byte's offset in that piece.
+/// Where a byte lies in its element: a level, a slice of it, and the byte's offset in that piece.
 #[derive(Clone, Copy)]
 pub struct Spot {
     pub level: u32,
@@ -24,7 +24,8 @@ impl Layout {
     fn level_holding(&self, offset: u64) -> usize
         ensures within { result < self.now.table.level_count }
         ensures begun { (get_or self.now.table.levels result blank).begin ≤ offset }
-        ensures last { result + 1 < self.now.table.level_count → offset < (get_or self.now.table.levels (result + 1) blank).begin }
+        ensures last { result + 1 < self.now.table.level_count
+            → offset < (get_or self.now.table.levels (result + 1) blank).begin }
     {
         let mut begun = 0;
         for level in self.levels() {
@@ -59,14 +60,17 @@ impl Layout {
         element + level.begin + piece.slice as u64 * level.piece_length()
     }
 
-    // A level of the table, if there is one of that number.
+    /// A level of the table, if there is one of that number.
     pub fn level(&self, number: u32) -> Option<Level>
-        ensures { MatchOption result (self.now.table.level_count ≤ number) (λ l. (number < self.now.table.level_count) × (l ≡ slice_index_or self.now.table.levels number blank)) }
+        ensures { MatchOption result
+            (self.now.table.level_count ≤ number)
+            (λ l. (number < self.now.table.level_count)
+            × (l ≡ slice_index_or self.now.table.levels number blank)) }
     {
         self.levels().get(number as usize).copied()
     }
 
-    // Where a piece stands. Refuses with NoSuchPiece.
+    /// Where a piece stands. Refuses with NoSuchPiece.
     pub fn place_of(&self, piece: Piece) -> Result<Area, Refusal>
         ensures value { WhereIs self.now piece result }
         ensures exact { result ≡ where_in self.now.table piece }
@@ -84,8 +88,8 @@ impl Layout {
         })
     }
 
-    // The piece that has the byte at a place, and the byte's offset in it; none where the byte is of no piece, as in the header.
-    // One division finds the element, a pass over its levels the level, and a second division the slice. Refuses with PastFileEnd.
+    /// The piece that has the byte at a place, and the byte's offset in it; none where the byte is of no piece, as in the header.
+    /// One division finds the element, a pass over its levels the level, and a second division the slice. Refuses with PastFileEnd.
     pub fn piece_at(&self, place: u64) -> Result<Option<(Piece, u32)>, Refusal>
         ensures value { WhoseIs self.now place result }
         ensures tiled { Tiled self.now }
@@ -106,7 +110,7 @@ impl Layout {
         Ok(Some((piece, spot.offset)))
     }
 
-    // The bytes of a piece, a part of the file. Refuses with OtherLength, then with NoSuchPiece.
+    /// The bytes of a piece, a part of the file. Refuses with OtherLength, then with NoSuchPiece.
     pub fn bytes_of<'a>(&self, file: &'a [u8], piece: Piece) -> Result<&'a [u8], Refusal>
         ensures { Shown self.now file.now piece result }
     {

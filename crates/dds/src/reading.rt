@@ -48,7 +48,9 @@ fn number_at(bytes: &[u8], place: usize) -> u32
 
 // What follows the four bytes that every DDS file begins with; none where others stand there.
 fn after_magic(head: &[u8]) -> Option<&[u8]>
-    ensures { MatchOption result (has_magic head.now ≡ false) (λ rest. (has_magic head.now ≡ true) × (rest.now ≡ drop 4 head.now)) }
+    ensures { MatchOption result
+        (has_magic head.now ≡ false)
+        (λ rest. (has_magic head.now ≡ true) × (rest.now ≡ drop 4 head.now)) }
 {
     match head {
         [0x44, 0x44, 0x53, 0x20, rest @ ..] => Some(rest),
@@ -87,15 +89,15 @@ impl Header {
         self.pixel_flags & FOURCC != 0
     }
 
-    // The code is the letters DX10, and it counts: more fields follow, and pixel data begin behind them.
+    /// The code is the letters DX10, and it counts: more fields follow, and pixel data begin behind them.
     pub fn is_extended(&self) -> bool
         ensures { result ≡ is_extended self.now }
     {
         self.code_decides() && self.code == DX10
     }
 
-    // The header of a file, from its head and its length. Refuses with WrongLength, WrongMagic, WrongHeaderSize or
-    // ShortExtendedHeader, in this order.
+    /// The header of a file, from its head and its length. Refuses with WrongLength, WrongMagic, WrongHeaderSize or
+    /// ShortExtendedHeader, in this order.
     pub fn read(head: FileHead<'_>) -> Result<Header, Refusal>
         ensures { result ≡ header_read head.entry.bytes.now head.entry.length }
     {
@@ -114,7 +116,7 @@ impl Header {
         Ok(header)
     }
 
-    // The format that the header names, with a table for the codes other than DX10.
+    /// The format that the header names, with a table for the codes other than DX10.
     pub fn format<T: CodeTable>(&self, codes: &T) -> Option<Format>
         ensures { option_map name_of result ≡ header_name (T.name_at codes.now) self.now }
     {

@@ -50,7 +50,7 @@ impl Header {
         }
     }
 
-    // The shape that the header means, if any.
+    /// The shape that the header means, if any.
     pub fn shape(&self) -> Option<Shape>
         ensures { result ≡ shape_of self.now }
     {
@@ -61,7 +61,7 @@ impl Header {
         }
     }
 
-    // How many levels each element has: a count of 0 means one.
+    /// How many levels each element has: a count of 0 means one.
     pub fn levels(&self) -> u32
         ensures { result ≡ levels_of self.now }
     {
@@ -86,7 +86,7 @@ impl Header {
         self.width.max(self.height).max(shape.depth())
     }
 
-    // The shape of the file. Refuses with NoShape, OutOfRange or TooManyLevels, in this order.
+    /// The shape of the file. Refuses with NoShape, OutOfRange or TooManyLevels, in this order.
     pub fn read_shape(&self) -> Result<Shape, Refusal>
         ensures { result ≡ shape_read self.now }
     {
@@ -102,7 +102,7 @@ impl Header {
 }
 
 impl Shape {
-    // How many elements the file holds.
+    /// How many elements the file holds.
     pub fn elements(self) -> u64
         ensures { result ≡ elements_of self }
     {
@@ -112,7 +112,7 @@ impl Shape {
         }
     }
 
-    // The slices of the first level: a volume's depth, else one.
+    /// The slices of the first level: a volume's depth, else one.
     pub fn depth(self) -> u32
         ensures { result ≡ depth_of self }
     {

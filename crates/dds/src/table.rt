@@ -1,7 +1,7 @@
 // The table of a texture's levels.
 use crate::level::Level;
 
-// The sides of an image, and how many such images a level stacks.
+/// The sides of an image, and how many such images a level stacks.
 #[derive(Clone, Copy)]
 pub struct Sides {
     pub width: u32,
@@ -9,8 +9,8 @@ pub struct Sides {
     pub depth: u32,
 }
 
-// Where all pieces of a file stand. The first `level_count` entries of `levels` are the levels of every element; the others
-// are blank. An element's bytes are `stride`; pixel data run from `pixel_begin` to `pixel_end`; the file has `length` bytes.
+/// Where all pieces of a file stand. The first `level_count` entries of `levels` are the levels of every element; the others
+/// are blank. An element's bytes are `stride`; pixel data run from `pixel_begin` to `pixel_end`; the file has `length` bytes.
 #[derive(Clone, Copy)]
 pub struct Table {
     // an array with a count beside it: a layout takes no memory of the heap and is copied, which an ArrayVec is not

@@ -23,3 +23,19 @@ pub(crate) fn head_with(
     }
     Ok(head)
 }
+
+// A file that begins with so many bytes of a base head, and in which every byte behind them is its place's remainder by 251.
+pub(crate) fn file_with(
+    rt: &impl Abort,
+    heap: Global,
+    base: &[u32; 37],
+    begin: u32,
+    length: u32,
+) -> Result<Vec<u8>, Fail> {
+    let mut file = head_with(rt, heap, base, &[])?;
+    file.truncate(begin as usize);
+    for place in begin..length {
+        file.push((place % 251) as u8)?;
+    }
+    Ok(file)
+}

@@ -22,8 +22,8 @@ fill_levels-stride-requires-clause-sides g c =
     subst (λ d. InRange (record { width = c.args.header.now.width; height = c.args.header.now.height; depth = d })) (sym c.depth.ensures)
     (shaped c.args.header.now c.args.shape c.requires).sides
 
-pub level_step-pixel_end-requires-clause-sliced : goal.level_step-pixel_end-requires-clause-sliced
-level_step-pixel_end-requires-clause-sliced g c =
+pub element_step-pixel_end-requires-clause-sliced : goal.element_step-pixel_end-requires-clause-sliced
+element_step-pixel_end-requires-clause-sliced g c =
     let steps : Steps c.args.header.now c.args.shape (g.F.Family.row_bytes c.args.family.now) (g.F.Family.rows c.args.family.now) _ _ _ _ _ _ _
     = record {
       ok = shaped c.args.header.now c.args.shape c.requires;
@@ -37,12 +37,8 @@ level_step-pixel_end-requires-clause-sliced g c =
     } in
     walk_sliced steps
 
-pub level_step-pixel_end-requires-clause-some : goal.level_step-pixel_end-requires-clause-some
-level_step-pixel_end-requires-clause-some g c =
-    omega (arith, (shaped c.args.header.now c.args.shape c.requires).some_elements, c.elements-elements.ensures)
-
-pub level_step-pixel_end-requires-clause-fits : goal.level_step-pixel_end-requires-clause-fits
-level_step-pixel_end-requires-clause-fits g c =
+pub element_step-pixel_end-requires-clause-fits : goal.element_step-pixel_end-requires-clause-fits
+element_step-pixel_end-requires-clause-fits g c =
     let steps : Steps c.args.header.now c.args.shape (g.F.Family.row_bytes c.args.family.now) (g.F.Family.rows c.args.family.now) _ _ _ _ _ _ _
     = record {
       ok = shaped c.args.header.now c.args.shape c.requires;
@@ -75,4 +71,4 @@ returns g c =
       long = filled_long c.default-levels.result _ (shaped c.args.header.now c.args.shape c.requires) c.levels-level_count.ensures c.fill_levels-stride.ensures.count;
       chain_is = c.fill_levels-stride.ensures.chain;
     } in
-    made steps c.args.length c.level_step-pixel_end.result c.level_step-pixel_end.ensures
+    made steps c.args.length c.element_step-pixel_end.result c.element_step-pixel_end.ensures
