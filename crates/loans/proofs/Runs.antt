@@ -1,7 +1,7 @@
 -- The law over every list of calls, and that the job's own file and shelves are never taken for others.
-use Rattle.std.proofs.Common.{◌≡◌, ℕ, ◌≤◌, true, List, [], ◌∷◌, map, length, get_or, Some, None, Option, arith, sym, refl, ap, ◌∙◌, subst}
+use Rattle.std.proofs.Common.{◌≡◌, ℕ, ◌≤◌, true, not, List, [], ◌∷◌, map, length, get_or, Some, None, Ok, Err, Option, Result, arith, sym, refl, ap, ◌∙◌, subst}
 use Rattle.std.specs.List.{AllByRecursion}
-use Rattle.std.proofs.ByRecursion.{All-weaker}
+use Rattle.std.proofs.ByRecursion.{All-weaker, all_kept_by}
 use Rattle.std.proofs.lemmas.List.FromFn.{fill_by_all, get_or-map-range_with_len}
 use Rattle.std.proofs.lemmas.List.{length-map}
 use Rattle.refusal.specs.declared.Refusal.{Refusal}
@@ -11,13 +11,15 @@ use Rattle.dds.specs.Places.{AreaOf}
 use Rattle.loans.specs.declared.ledger.Loan.{Loan}
 use Rattle.loans.specs.declared.mark.Mark.{Mark}
 use Rattle.loans.specs.Jobs.{fresh_book}
-use Rattle.loans.specs.Stocks.{Stock, are_ours}
+use Rattle.loans.specs.Books.{no_loan}
+use Rattle.loans.specs.Stocks.{Stock, is_number, is_out, the_loan, are_ours}
 use Rattle.loans.specs.Strokes.{State, counted_loan}
 use Rattle.loans.specs.Rules.{Deed, call_refusal, carried_out, number_for, refusal_or, left, answer_to, after, answers_to, after_all}
 use Rattle.loans.specs.Rules.Deed.{lend, paint, undo, keep, cancel}
-use Rattle.loans.specs.History.{Event, Stroke, written_down, history_of, lent, out_in, keeps_in, cancels_in, standing, ever_laid, byte_under, undoable, mark_of, told}
+use Rattle.loans.specs.History.{Event, Stroke, written_down, history_of, lent, out_in, keeps_in, cancels_in, stroke_of, standing_after, standing, laid_after, ever_laid, byte_under, undoable, mark_of, told}
 use Rattle.loans.specs.Law.{Answered, TakenAsOwn, OfPiece, OfListed, CountsMarks, Law}
 use Rattle.loans.specs.Runs.{opened_state}
+use Rattle.loans.proofs.Listed.{all_less_first, first_among, all_among}
 use Rattle.loans.proofs.Lawful.{Lawful, lawful, listed_area}
 use Rattle.loans.proofs.Good.{good_none, outs_apart}
 use Rattle.loans.proofs.Ours.{told_ours, told_same, told_length}
@@ -184,3 +186,24 @@ ours_run y number file k ds e a b =
     stands_ours y number k.most_marks k.most_bytes file l e _ _
     (all_stand_lem y number k.most_marks k.most_bytes file l e ds (opened_state y.table number file k) []
     (opened y number k.most_marks k.most_bytes file l e k a b refl refl))
+
+-- what holds of every stroke ever laid holds of those that stand
+pub standing_all : (P : Stroke → Type 0) (t : Table) (opening : List ℕ) (h : List Event) → AllByRecursion P (ever_laid t opening h) → AllByRecursion P (standing t opening h)
+standing_all P t opening [] a = tt
+standing_all P t opening (e ∷ h) a = go (standing_all P t opening h) e.call e.answer a
+  where
+    Before : Type 0
+    Before = AllByRecursion P (ever_laid t opening h) → AllByRecursion P (standing t opening h)
+
+    go : Before → (d : Deed) (r : Result ℕ Refusal) → AllByRecursion P (laid_after opening (out_in t h) (standing t opening h) (ever_laid t opening h) d r)
+        → AllByRecursion P (standing_after opening (out_in t h) (standing t opening h) d r)
+    go before d (Err x) b = before b
+    go before (lend p who) (Ok k) b = before b
+    go before (paint p) (Ok k) b = (b.0, before b.1)
+    go before (undo n who) (Ok k) b = all_less_first (stroke_of n) P _ (before b)
+    go before (keep n) (Ok k) b = before b
+    go before (cancel n) (Ok k) b = all_kept_by (λ s. not (stroke_of n s)) P _ (before b)
+
+-- what holds of every loan ever granted holds of that of a number
+pub lent_all : (P : Loan → Type 0) (ls : List Loan) (n : ℕ) → AllByRecursion P ls → is_out ls n ≡ true → P (the_loan ls n)
+lent_all P ls n a out = all_among P ls (the_loan ls n) a (first_among (is_number n) no_loan ls out).0
