@@ -1,7 +1,7 @@
 // Opening a job, and asking where its pieces stand.
-ghost use Rattle.std.specs.Prelude.{◌≡◌, false, IfOk, Option};
+ghost use Rattle.std.specs.Prelude.{◌≡◌, Option};
 ghost use Rattle.dds.specs.Places.{WhereIs, where_in, WhoseIs, Shown};
-ghost use Rattle.loans.specs.Jobs.{book_of, fresh_book, empty_book, report_of};
+ghost use Rattle.loans.specs.Jobs.{book_of, fresh_book, empty_book, report_of, IsBalanced};
 ghost use Rattle.loans.specs.Opening.{OpenedWith, OpenedWithCodes};
 
 use crate::docket::Docket;
@@ -32,46 +32,45 @@ impl Job {
         }
     }
 
-    // A job that holds no file.
+    /// A job that holds no file.
     pub fn empty() -> Job
         ensures { book_of result ≡ empty_book }
     {
         Job::fresh(Layout::empty(), None)
     }
 
-    // Opens a file with a family that is handed in, whatever the job held. Refuses as Layout::read_with does, and then changes
-    // nothing.
+    /// Opens a file with a family that is handed in, whatever the job held. Refuses as Layout::read_with does, and then changes
+    /// nothing.
     pub fn open_with<F: Family>(
         &mut self,
         file: &[u8],
         number: u32,
         family: &F,
     ) -> Result<Docket, Refusal>
-        ensures opened { OpenedWith file.now number (F.row_bytes family.now) (F.rows family.now) self.old result self.new }
-        ensures unspent { IfOk result (λ docket. docket.spent ≡ false) }
+        ensures { OpenedWith file.now number (F.row_bytes family.now) (F.rows family.now)
+            self.old result self.new }
     {
         let layout = Layout::read_with(FileHead::of(file), family)?;
         *self = Job::fresh(layout, Some(number));
         Ok(Docket::of(number))
     }
 
-    // Opens a file by the format that its header names, with a table of the codes other than DX10, whatever the job held. Refuses as
-    // Layout::read does, and then changes nothing.
+    /// Opens a file by the format that its header names, with a table of the codes other than DX10, whatever the job held. Refuses as
+    /// Layout::read does, and then changes nothing.
     pub fn open<T: CodeTable>(
         &mut self,
         file: &[u8],
         number: u32,
         codes: &T,
     ) -> Result<Docket, Refusal>
-        ensures opened { OpenedWithCodes file.now number (T.name_at codes.now) self.old result self.new }
-        ensures unspent { IfOk result (λ docket. docket.spent ≡ false) }
+        ensures { OpenedWithCodes file.now number (T.name_at codes.now) self.old result self.new }
     {
         let layout = Layout::read(FileHead::of(file), codes)?;
         *self = Job::fresh(layout, Some(number));
         Ok(Docket::of(number))
     }
 
-    // Where a piece stands. Refuses with NoSuchPiece.
+    /// Where a piece stands. Refuses with NoSuchPiece.
     pub fn where_is(&self, piece: Piece) -> Result<Area, Refusal>
         ensures value { WhereIs self.now.layout piece result }
         ensures exact { result ≡ where_in (book_of self.now).table piece }
@@ -79,23 +78,24 @@ impl Job {
         self.layout.place_of(piece)
     }
 
-    // The piece that has the byte at a place, and the byte's offset in it; none for a byte of no piece. Refuses with PastFileEnd.
+    /// The piece that has the byte at a place, and the byte's offset in it; none for a byte of no piece. Refuses with PastFileEnd.
     pub fn whose(&self, place: u64) -> Result<Option<(Piece, u32)>, Refusal>
         ensures { WhoseIs self.now.layout place result }
     {
         self.layout.piece_at(place)
     }
 
-    // The bytes of a piece, a part of the file. Refuses with OtherLength, then with NoSuchPiece.
+    /// The bytes of a piece, a part of the file. Refuses with OtherLength, then with NoSuchPiece.
     pub fn show<'a>(&self, file: &'a [u8], piece: Piece) -> Result<&'a [u8], Refusal>
         ensures { Shown self.now.layout file.now piece result }
     {
         self.layout.bytes_of(file, piece)
     }
 
-    // The job's counts.
+    /// The job's counts of its loans.
     pub fn report(&self) -> Report
-        ensures { result ≡ report_of (book_of self.now) }
+        ensures value { result ≡ report_of (book_of self.now) }
+        ensures balance { IsBalanced result }
     {
         let ledger = &self.ledger;
         Report {

@@ -1,6 +1,6 @@
 // Running a list of calls on a newly opened job.
-ghost use Rattle.std.specs.Prelude.{◌≡◌, false, IfOk, Some, ◌+◌, ◌≤◌, map, length, vec_len, vec_capacity};
-ghost use Rattle.loans.specs.declared.running.RunFault.TheVariants.{Refused, NoMemory};
+ghost use Rattle.std.specs.Prelude.{◌≡◌, Some, ◌+◌, ◌≤◌, map, length, vec_len, vec_capacity};
+ghost use Rattle.loans.specs.declared.running.RunFault.TheVariants.{Refused};
 ghost use Rattle.loans.specs.Jobs.{book_of};
 ghost use Rattle.loans.specs.Stocks.{stock_of, OursWhere};
 ghost use Rattle.loans.specs.Strokes.{state_of};
@@ -16,15 +16,16 @@ use crate::mark::Shelves;
 use dds::{FileHead, Layout};
 use formats::Family;
 use refusal::Refusal;
-use std::alloc::AllocError;
 use std::error::Error;
 use std::fmt;
 
-// Why a run was not made: the file was not opened, or there was no memory for the answers.
+/// Why a run was not made.
 #[derive(Clone, Copy, PartialEq, Eq, Debug)]
 pub enum RunFault {
+    /// the file was not opened
     Refused(Refusal),
-    NoMemory,
+    /// the Vec has too little room for one answer a call
+    NoRoom,
 }
 
 impl fmt::Display for RunFault {
@@ -33,7 +34,7 @@ impl fmt::Display for RunFault {
     fn fmt<W: fmt::Write>(&self, f: &mut fmt::Formatter<W>) -> fmt::Result {
         match self {
             RunFault::Refused(refusal) => write!(f, "{refusal}"),
-            RunFault::NoMemory => write!(f, "no memory for the answers"),
+            RunFault::NoRoom => write!(f, "no room for the answers"),
         }
     }
 }
@@ -48,14 +49,6 @@ impl From<Refusal> for RunFault {
     }
 }
 
-impl From<AllocError> for RunFault {
-    ghost from_gives = { λ _ fault. fault ≡ NoMemory };
-
-    fn from(_failed: AllocError) -> RunFault {
-        Self::NoMemory
-    }
-}
-
 impl Job {
     // Makes one call; shelves that are known to be the job's are not looked through. That is a flag and no closure, which would be called
     // or not by the same flag.
@@ -67,7 +60,8 @@ impl Job {
         known: bool,
     ) -> Result<u32, Refusal>
         requires { OursWhere known (book_of self.old) (stock_of shelves.old) }
-        ensures { Called (deed_of call.entry) self.old file.old shelves.old result self.new file.new shelves.new }
+        ensures { Called (deed_of call.entry) self.old file.old shelves.old
+            result self.new file.new shelves.new }
     {
         match call {
             Call::Loan { piece, borrower } => self.loan(piece, borrower),
@@ -78,14 +72,15 @@ impl Job {
         }
     }
 
-    // Makes one call that is given as a value. Refuses as the call's own method does.
+    /// Makes one call that is given as a value. Refuses as the call's own method does.
     pub fn carry_out(
         &mut self,
         file: &mut [u8],
         shelves: &mut Shelves<'_>,
         call: Call<'_>,
     ) -> Result<u32, Refusal>
-        ensures rule { Called (deed_of call.entry) self.old file.old shelves.old result self.new file.new shelves.new }
+        ensures rule { Called (deed_of call.entry) self.old file.old shelves.old
+            result self.new file.new shelves.new }
         ensures handed { HandedBy (deed_of call.entry) result (book_of self.new) }
     {
         self.call(file, shelves, call, false)
@@ -119,10 +114,10 @@ impl Shelves<'_> {
     }
 }
 
-// Opens a job on a file with a family that is handed in, makes the calls in order on it and the shelves, puts an answer for each
-// behind those in the Vec, and gives the docket. Refuses as Layout::read_with does; then with NoMemory, where there is no memory for the
-// answers. Either way nothing changes.
-// Shelves that are empty at first are the job's all along, so that no call has to look through them.
+/// Opens a job on a file with a family that is handed in, makes the calls in order on it and the shelves, puts an answer for each
+/// behind those in the Vec, and gives the docket. It takes no memory: the Vec has to have room for one answer a call. Refuses as
+/// Layout::read_with does, whatever room there is; then with NoRoom. Either way nothing changes.
+/// Shelves that are empty at first are the job's all along, so that no call has to look through them.
 pub fn run<F: Family>(
     job: &mut Job,
     file: &mut [u8],
@@ -132,11 +127,21 @@ pub fn run<F: Family>(
     calls: &[Call<'_>],
     answers: &mut Vec<Answer>,
 ) -> Result<Docket, RunFault>
-    ensures ran { Ran (record { file = file.old; number = number; row_bytes = F.row_bytes family.now; rows = F.rows family.now; shelves = shelves.old; calls = map deed_of calls.now; old = answers.old.items }) (vec_len answers.old) (vec_capacity answers.old) job.old result job.new file.new shelves.new answers.new.items }
-    ensures unspent { IfOk result (λ docket. docket.spent ≡ false) }
+    ensures { Ran (record {
+      file = file.old;
+      number = number;
+      row_bytes = F.row_bytes family.now;
+      rows = F.rows family.now;
+      shelves = shelves.old;
+      calls = map deed_of calls.now;
+      old = answers.old.items;
+      room = vec_capacity answers.old;
+    }) job.old result job.new file.new shelves.new answers.new.items }
 {
     let layout = Layout::read_with(FileHead::of(file), family)?;
-    answers.reserve(calls.len())?;
+    if answers.capacity() - answers.len() < calls.len() {
+        return Err(RunFault::NoRoom);
+    }
     let mut opened = Job::fresh(layout, Some(number));
     opened.call_all(file, shelves, calls, shelves.are_empty(), answers);
     *job = opened;
