@@ -1,7 +1,7 @@
 // The order program: carries out the orders on standard input on master.dds, prints an answer for each, and ships the texture.
 #![tactic(auto)]
 
-use orders::{Ending, LONGEST_MASTER, LONGEST_ORDERS, Reply, run_day};
+use orders::{Ending, LONGEST_MASTER, LONGEST_ORDERS, Reply, room_for, run_day};
 use std::alloc::AllocError;
 use std::fs::File;
 use std::io::{ErrorKind, Read, Write};
@@ -37,12 +37,14 @@ enum Fault {
     Master(io::Error),
     #[error("the orders cannot be read: {0}")]
     Orders(io::Error),
-    #[error("out of memory")]
+    #[error("out of memory for the answers")]
     Memory(#[from] AllocError),
     #[error("the answers cannot be printed: {0}")]
     Output(io::Error),
     #[error("shipped.dds was not written: {0}")]
     Shipped(io::Error),
+    #[error("shipped.dds was written, and a power cut may undo that: {0}")]
+    Folder(io::Error),
 }
 
 // Reads no more than the limit and one byte, which tells that the limit is passed.
@@ -63,18 +65,24 @@ fn read_master(rt: &HostRuntime) -> io::Result<Vec<u8>> {
     }
 }
 
-// Whole or not at all. What a killed run left under the first name is taken away, and so is a link of that name, which is never written
-// through.
+// Whole or not at all, and on the disk before it has its name. What a killed run left under the first name is taken away, and so is a
+// link of that name, which is never written through.
 fn write_shipped(rt: &HostRuntime, bytes: &[u8]) -> io::Result<()> {
     let _ = fs::remove_file(rt, PART);
     let mut part = File::create_new(rt, PART)?;
     let written = part
         .write_all(bytes)
+        .and_then(|()| part.sync_all())
         .and_then(|()| fs::rename(rt, PART, SHIPPED));
     if written.is_err() {
         let _ = fs::remove_file(rt, PART);
     }
     written
+}
+
+// The new name is on the disk once its folder is.
+fn sync_folder(rt: &HostRuntime) -> io::Result<()> {
+    File::open(rt, ".")?.sync_all()
 }
 
 fn print(rt: &HostRuntime, lines: &[u8]) -> Result<(), Fault> {
@@ -84,20 +92,21 @@ fn print(rt: &HostRuntime, lines: &[u8]) -> Result<(), Fault> {
         .map_err(Fault::Output)
 }
 
-// The last line is printed when the file stands.
+// The room for the answers is there before any order is carried out, and the last line is printed when the file stands.
 fn run(rt: &HostRuntime) -> Result<(), Fault> {
     let mut master = read_master(rt).map_err(Fault::Master)?;
     let orders = read_up_to(rt, rt.stdin(), LONGEST_ORDERS).map_err(Fault::Orders)?;
-    let mut printed = Vec::new(rt.alloc());
-    let ending = run_day(&mut master, &orders, &mut printed)?;
-    if ending != Ending::Shipped {
-        return print(rt, &printed);
+    let mut answers = Vec::new(rt.alloc());
+    answers.reserve(room_for(&orders))?;
+    let Ok(ending) = run_day(&mut master, &orders, &mut answers) else {
+        unreachable!("the room is reserved")
+    };
+    print(rt, &answers)?;
+    if ending == Ending::Shipped {
+        write_shipped(rt, &master).map_err(Fault::Shipped)?;
+        sync_folder(rt).map_err(Fault::Folder)?;
     }
-    let last = Reply::from(ending).line();
-    let (answers, _) = printed.split_at(printed.len().saturating_sub(last.len()));
-    print(rt, answers)?;
-    write_shipped(rt, &master).map_err(Fault::Shipped)?;
-    print(rt, last.as_str().as_bytes())
+    print(rt, Reply::from(ending).line().as_str().as_bytes())
 }
 
 fn main(rt: HostRuntime) -> io::Result<ExitCode> {
