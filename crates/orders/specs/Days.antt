@@ -99,7 +99,7 @@ pub record Worked (g : DayInputs) (ending : Ending) (file new : List ℕ) : Type
   pub by_rules : answers ≡ answers_to (opened_state layout.table 1 g.master empty_stock) (calls_in wishes)
   pub printed : new ≡ g.before ++ answer_lines (answers_in wishes answers)
   pub end : State
-  pub law : Law layout.table 1 64 4096 g.master (history_of (calls_in wishes) answers) end
+  pub law : Law layout 1 64 4096 g.master (history_of (calls_in wishes) answers) end
   pub closed : Closed end ending file
 
 -- where no order is carried out, nothing is printed, and nothing changes

@@ -9,7 +9,7 @@ pub close-requires-clause-number : goal.close-requires-clause-number
 close-requires-clause-number c =
     let g : DayInputs = record { master = c.args.master.now; orders = c.args.orders.now; before = vec_items c.args.printed.now } in
     let job = c.open.new.self in
-    let opened = c.in-Ok.ensures.opened in
+    let opened = c.in-Ok.ensures in
     let first = first_state g job c.of-shelves.result _ _ _ _ opened.2 c.of-shelves.ensures.marks c.of-shelves.ensures.bytes c.new.ensures c.new-2.ensures refl refl in
     let before = state_of job c.args.master.now c.of-shelves.result in
     let after = state_of c.answer_all.new.job c.answer_all.new.file c.answer_all.new.shelves in
@@ -19,7 +19,7 @@ pub close-requires-clause-home : goal.close-requires-clause-home
 close-requires-clause-home c =
     let g : DayInputs = record { master = c.args.master.now; orders = c.args.orders.now; before = vec_items c.args.printed.now } in
     let job = c.open.new.self in
-    let opened = c.in-Ok.ensures.opened in
+    let opened = c.in-Ok.ensures in
     let first = first_state g job c.of-shelves.result _ _ _ _ opened.2 c.of-shelves.ensures.marks c.of-shelves.ensures.bytes c.new.ensures c.new-2.ensures refl refl in
     let before = state_of job c.args.master.now c.of-shelves.result in
     let after = state_of c.answer_all.new.job c.answer_all.new.file c.answer_all.new.shelves in
@@ -29,7 +29,7 @@ pub returns-in-Ok-clause-ended : goal.returns-in-Ok-clause-ended
 returns-in-Ok-clause-ended c =
     let g : DayInputs = record { master = c.args.master.now; orders = c.args.orders.now; before = vec_items c.args.printed.now } in
     let job = c.open.new.self in
-    let opened = c.in-Ok.ensures.opened in
+    let opened = c.in-Ok.ensures in
     let first = first_state g job c.of-shelves.result _ _ _ _ opened.2 c.of-shelves.ensures.marks c.of-shelves.ensures.bytes c.new.ensures c.new-2.ensures refl refl in
     let before = state_of job c.args.master.now c.of-shelves.result in
     let after = state_of c.answer_all.new.job c.answer_all.new.file c.answer_all.new.shelves in
