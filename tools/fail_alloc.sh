@@ -49,7 +49,7 @@ of_tests() {
         tell "the tests of $1" 'built by rt test' 'not built'
         return
     fi
-    for name in $("$program" --list); do
+    for name in $("$program" --list | sed -n 's/: test$//p'); do
         starved 0 "$program" "$name" > out 2>&1
         tell "$name" 'status 0' "status $?"
         most=$(cat count)
@@ -57,7 +57,7 @@ of_tests() {
         for ((n = 1; n <= most; n++)); do
             starved "$n" "$program" "$name" > out 2>&1
             status=$?
-            [ "$status" = 0 ] || tell "$name, allocation $n" 'AllocError' "$(grep -o AllocError out || paste -s -d '|' out)"
+            [ "$status" = 0 ] || tell "$name, allocation $n" 'want of memory' "$(grep -Eq 'AllocError|AllocFailed' out && echo want of memory || paste -s -d '|' out)"
         done
     done
     echo "the tests of $1: each of $all allocations"

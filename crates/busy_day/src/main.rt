@@ -1,5 +1,5 @@
-// A test program: a day with thirty loans out and strokes mixed. It prints what the day prints, and then the bytes of the texture that
-// changed. The texture, the orders and the expected output, in the file stdout beside this crate's src, were made by
+// A test program: a day with thirty loans out and strokes mixed. It prints the answers and the last line, and then the bytes of the texture
+// that changed. The texture, the orders and the expected output, in the file stdout beside this crate's src, were made by
 // tools/expected_busy_day.py, which uses none of this code.
 #![tactic(auto)]
 

@@ -1,5 +1,5 @@
 -- A day on a texture that was opened.
-use Rattle.std.proofs.Common.{arith, append-nil, ◌≡◌, ℕ, min, List, [], ◌++◌, length, take, Some, None, Option, Ok, Err, Result, refl, sym, ap, ◌∙◌, subst, append_assoc}
+use Rattle.std.proofs.Common.{◌≡◌, ℕ, min, List, ◌++◌, length, take, Some, None, Option, Ok, Err, Result, refl, sym, ap, ◌∙◌, subst}
 use Rattle.refusal.specs.declared.Refusal.{Refusal}
 use Rattle.formats.specs.declared.kinds.FormatName.{FormatName}
 use Rattle.formats.specs.Codes.{name_for, plain_rows}
@@ -26,8 +26,7 @@ use Rattle.loans.proofs.Runs.{law_run, told_again, ours_run}
 use Rattle.orders.specs.declared.day.Ending.{Ending}
 use Rattle.orders.specs.declared.day.Ending.TheVariants.{Refused, Shipped, Scrapped}
 use Rattle.orders.specs.Lines.{lines_of}
-use Rattle.orders.specs.Replies.{reply_text}
-use Rattle.orders.specs.Days.{DayInputs, MasterOpened, empty_stock, answer_lines, Closed, closing_reply, calls_in, answers_in, Worked, EndedAs}
+use Rattle.orders.specs.Days.{DayInputs, MasterOpened, empty_stock, answer_lines, Closed, calls_in, answers_in, Worked, EndedAs}
 use Rattle.orders.specs.Steps.{LinesAnswered}
 
 -- a layout has its file's length
