@@ -105,7 +105,8 @@ fn answer_all(
     requires short { length orders.now ≤ 16384 }
     requires few { (stock_of shelves.old).most_marks ≤ 65535 }
     requires room { vec_len printed.old + 6 * length orders.now ≤ vec_capacity printed.old }
-    ensures answered { LinesAnswered (lines_of orders.now) (state_of job.old file.old shelves.old) printed.old.items
+    ensures answered { LinesAnswered (lines_of orders.now)
+        (state_of job.old file.old shelves.old) printed.old.items
         (state_of job.new file.new shelves.new) printed.new.items }
     ensures length { vec_len printed.new ≤ vec_len printed.old + 6 * length orders.now }
     ensures capacity { vec_capacity printed.new ≡ vec_capacity printed.old }
@@ -134,7 +135,8 @@ fn close(docket: Docket, job: &mut Job, file: &mut [u8], shelves: &mut Shelves<'
 fn work(master: &mut [u8], orders: &[u8], printed: &mut Vec<u8>) -> Ending
     requires short { length orders.now ≤ 16384 }
     requires room { vec_len printed.old + 6 * length orders.now ≤ vec_capacity printed.old }
-    ensures ended { EndedAs (record { master = master.old; orders = orders.now; before = printed.old.items })
+    ensures ended { EndedAs
+        (record { master = master.old; orders = orders.now; before = printed.old.items })
         result master.new printed.new.items }
     ensures length { vec_len printed.new ≤ vec_len printed.old + 6 * length orders.now }
     ensures capacity { vec_capacity printed.new ≡ vec_capacity printed.old }
@@ -172,7 +174,8 @@ pub fn room_for(orders: &[u8]) -> usize
 /// The ending is a refusal, and nothing else changes: OverLimit where the texture or the orders have more bytes than they can, then those
 /// of `Job::open`.
 pub fn run_day(master: &mut [u8], orders: &[u8], printed: &mut Vec<u8>) -> Result<Ending, NoRoom>
-    ensures no_room { IsErr result ↔ (vec_capacity printed.old < vec_len printed.old + room_for orders.now) }
+    ensures no_room { IsErr result
+        ↔ (vec_capacity printed.old < vec_len printed.old + room_for orders.now) }
     ensures master_stays { OnErr result (master.new ≡ master.old) }
     ensures printed_stays { OnErr result (printed.new.items ≡ printed.old.items) }
     ensures day { IfOk result (λ ending. DayDone
