@@ -1,7 +1,7 @@
 # What the repository does: `make demo` shows it on sample data, `make test` is the gate, `make bench` measures it,
-# `make robust` tries the programs where something is wrong around them, `make planted` tries the planted bugs, which the proofs must
-# refuse, `make fmt` formats the sources.
-.PHONY: demo test bench robust planted fmt
+# `make robust` tries the programs where something is wrong around them, `make memory` makes each allocation of a day and a run fail,
+# `make planted` tries the planted bugs, which the proofs must refuse, `make fmt` formats the sources.
+.PHONY: demo test bench robust memory planted fmt
 
 SAMPLES = crates/samples/data
 
@@ -27,6 +27,11 @@ bench: target/bin/bench
 
 robust: target/bin/cuivakko target/bin/pieces target/bin/retouch
 	tools/robust.sh target/bin
+
+memory: target/bin/cuivakko
+	cd crates/orders_tests && rt test >/dev/null
+	cd crates/loans_tests && rt test >/dev/null
+	tools/fail_alloc.sh target/bin
 
 # At least three bugs in each public function, with the edits of the gate, but for those of planted/FEWER.txt.
 planted:

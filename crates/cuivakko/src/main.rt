@@ -1,7 +1,10 @@
 // The order program: carries out the orders on standard input on master.dds, prints an answer for each, and ships the texture.
 #![tactic(auto)]
 
-use orders::{Ending, LONGEST_MASTER, LONGEST_ORDERS, Reply, run_day};
+#[cfg(test)]
+mod tests;
+
+use orders::{Ending, LONGEST_MASTER, LONGEST_ORDERS, Reply, room_for, run_day};
 use std::alloc::AllocError;
 use std::fs::File;
 use std::io::{ErrorKind, Read, Write};
@@ -33,16 +36,20 @@ writes nothing and prints 'scrap'. docs/ORDERS.md explains the orders.
 // What stopped the program.
 #[derive(Debug, Drop, Error)]
 enum Fault {
+    #[error("the arguments cannot be read: {0}")]
+    Arguments(io::Error),
     #[error("master.dds cannot be read: {0}")]
     Master(io::Error),
     #[error("the orders cannot be read: {0}")]
     Orders(io::Error),
-    #[error("out of memory")]
+    #[error("out of memory for the answers")]
     Memory(#[from] AllocError),
-    #[error("the answers cannot be printed: {0}")]
+    #[error("the output cannot be printed: {0}")]
     Output(io::Error),
     #[error("shipped.dds was not written: {0}")]
     Shipped(io::Error),
+    #[error("shipped.dds was written, and a power cut may undo that: {0}")]
+    Folder(io::Error),
 }
 
 // Reads no more than the limit and one byte, which tells that the limit is passed.
@@ -63,18 +70,27 @@ fn read_master(rt: &HostRuntime) -> io::Result<Vec<u8>> {
     }
 }
 
+// On the disk when it is closed.
+fn fill(mut part: File, bytes: &[u8]) -> io::Result<()> {
+    part.write_all(bytes)?;
+    part.sync_all()
+}
+
 // Whole or not at all. What a killed run left under the first name is taken away, and so is a link of that name, which is never written
 // through.
 fn write_shipped(rt: &HostRuntime, bytes: &[u8]) -> io::Result<()> {
     let _ = fs::remove_file(rt, PART);
-    let mut part = File::create_new(rt, PART)?;
-    let written = part
-        .write_all(bytes)
-        .and_then(|()| fs::rename(rt, PART, SHIPPED));
+    let part = File::create_new(rt, PART)?;
+    let written = fill(part, bytes).and_then(|()| fs::rename(rt, PART, SHIPPED));
     if written.is_err() {
         let _ = fs::remove_file(rt, PART);
     }
     written
+}
+
+// The new name is on the disk once its folder is.
+fn sync_folder(rt: &HostRuntime) -> io::Result<()> {
+    File::open(rt, ".")?.sync_all()
 }
 
 fn print(rt: &HostRuntime, lines: &[u8]) -> Result<(), Fault> {
@@ -84,37 +100,59 @@ fn print(rt: &HostRuntime, lines: &[u8]) -> Result<(), Fault> {
         .map_err(Fault::Output)
 }
 
-// The last line is printed when the file stands.
-fn run(rt: &HostRuntime) -> Result<(), Fault> {
+// The room for the answers is there before any order is carried out, and the last line is printed when the file stands.
+fn day(rt: &HostRuntime, master: &mut [u8], orders: &[u8]) -> Result<(), Fault> {
+    let mut answers = Vec::new(rt.alloc());
+    answers.reserve(room_for(orders))?;
+    let Ok(ending) = run_day(master, orders, &mut answers) else {
+        unreachable!("the room is reserved")
+    };
+    print(rt, &answers)?;
+    if ending == Ending::Shipped {
+        write_shipped(rt, master).map_err(Fault::Shipped)?;
+        sync_folder(rt).map_err(Fault::Folder)?;
+    }
+    print(rt, Reply::from(ending).line().as_str().as_bytes())
+}
+
+// Nothing is printed before both inputs are read.
+fn read_and_work(rt: &HostRuntime) -> Result<(), Fault> {
     let mut master = read_master(rt).map_err(Fault::Master)?;
     let orders = read_up_to(rt, rt.stdin(), LONGEST_ORDERS).map_err(Fault::Orders)?;
-    let mut printed = Vec::new(rt.alloc());
-    let ending = run_day(&mut master, &orders, &mut printed)?;
-    if ending != Ending::Shipped {
-        return print(rt, &printed);
+    day(rt, &mut master, &orders)
+}
+
+// What the arguments ask for.
+enum Task {
+    Day,
+    Help,
+    Unknown,
+}
+
+fn read_arguments(rt: &HostRuntime) -> io::Result<Task> {
+    let args: Vec<String> = env::args(rt)?.skip(1).collect(rt.alloc())?;
+    Ok(match args.first() {
+        None => Task::Day,
+        Some(arg) if arg.as_str() == "--help" => Task::Help,
+        Some(_) => Task::Unknown,
+    })
+}
+
+fn run(rt: &HostRuntime) -> Result<ExitCode, Fault> {
+    match read_arguments(rt).map_err(Fault::Arguments)? {
+        Task::Day => read_and_work(rt)?,
+        Task::Help => println!(rt; "{USAGE}").map_err(Fault::Output)?,
+        Task::Unknown => {
+            eprintln!(rt; "{USAGE}").map_err(Fault::Output)?;
+            return Ok(ExitCode::FAILURE);
+        }
     }
-    let last = Reply::from(ending).line();
-    let (answers, _) = printed.split_at(printed.len().saturating_sub(last.len()));
-    print(rt, answers)?;
-    write_shipped(rt, &master).map_err(Fault::Shipped)?;
-    print(rt, last.as_str().as_bytes())
+    Ok(ExitCode::SUCCESS)
 }
 
 fn main(rt: HostRuntime) -> io::Result<ExitCode> {
-    let args: Vec<String> = env::args(&rt)?.skip(1).collect(rt.alloc())?;
-    if let Some(arg) = args.first() {
-        if arg.as_str() == "--help" {
-            println!(rt; "{USAGE}")?;
-            return Ok(ExitCode::SUCCESS);
-        }
-        eprintln!(rt; "{USAGE}")?;
-        return Ok(ExitCode::FAILURE);
-    }
-    match run(&rt) {
-        Ok(()) => Ok(ExitCode::SUCCESS),
-        Err(fault) => {
-            eprintln!(rt; "cuivakko: {fault}")?;
-            Ok(ExitCode::FAILURE)
-        }
-    }
+    run(&rt).or_else(|fault| {
+        eprintln!(rt; "cuivakko: {fault}")?;
+        Ok(ExitCode::FAILURE)
+    })
 }

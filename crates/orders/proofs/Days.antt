@@ -1,5 +1,5 @@
 -- A day on a texture that was opened.
-use Rattle.std.proofs.Common.{arith, append-nil, ◌≡◌, ℕ, min, List, [], ◌++◌, length, take, Some, None, Option, Ok, Err, Result, refl, sym, ap, ◌∙◌, subst, append_assoc}
+use Rattle.std.proofs.Common.{◌≡◌, ℕ, min, List, ◌++◌, length, take, Some, None, Option, Ok, Err, Result, refl, sym, ap, ◌∙◌, subst}
 use Rattle.refusal.specs.declared.Refusal.{Refusal}
 use Rattle.formats.specs.declared.kinds.FormatName.{FormatName}
 use Rattle.formats.specs.Codes.{name_for, plain_rows}
@@ -26,8 +26,7 @@ use Rattle.loans.proofs.Runs.{law_run, told_again, ours_run}
 use Rattle.orders.specs.declared.day.Ending.{Ending}
 use Rattle.orders.specs.declared.day.Ending.TheVariants.{Refused, Shipped, Scrapped}
 use Rattle.orders.specs.Lines.{lines_of}
-use Rattle.orders.specs.Replies.{reply_text}
-use Rattle.orders.specs.Days.{DayInputs, MasterOpened, empty_stock, answer_lines, Closed, closing_reply, calls_in, answers_in, Worked, EndedAs}
+use Rattle.orders.specs.Days.{DayInputs, MasterOpened, empty_stock, answer_lines, Closed, calls_in, answers_in, Worked, EndedAs}
 use Rattle.orders.specs.Steps.{LinesAnswered}
 
 -- a layout has its file's length
@@ -84,19 +83,9 @@ module _ (g : DayInputs) (y : Layout) (opened : MasterOpened g (Ok y)) where
           ours = ours.0;
         })
 
-  -- the job is the file's before any line is read
-  pub first_home : (s : State) → s ≡ first → AtHome s
-  first_home s same = at_home [] s s g.before same (record { wishes = []; asked = tt; printed = sym (append-nil g.before); left = refl })
-
-  -- and if it is closed then, the file is as it was
-  pub first_closed : (s : State) (ending : Ending) (file : List ℕ) → s ≡ first → Closed s ending file → file ≡ g.master
-  first_closed s (Refused e) file same closed = absurd closed
-  first_closed s Shipped file same closed = closed.1 ∙ ap (λ (x : State). x.file) same
-  first_closed s Scrapped file same closed = absurd (omega (arith, closed.0, ap (λ (x : State). length x.book.outs) same))
-
   module _ (s₀ s : State) (new : List ℕ) (same : s₀ ≡ first) (all : LinesAnswered (lines_of g.orders) s₀ g.before s new) where
-    worked : (ending : Ending) (file new' : List ℕ) → Closed s ending file → new' ≡ new ++ reply_text (closing_reply ending) → Worked g ending file new'
-    worked ending file new' closed printed = record {
+    worked : (ending : Ending) (file : List ℕ) → Closed s ending file → Worked g ending file new
+    worked ending file closed = record {
       layout = y;
       opened = opened;
       wishes = all.wishes;
@@ -104,16 +93,13 @@ module _ (g : DayInputs) (y : Layout) (opened : MasterOpened g (Ok y)) where
       answers = answers_to first (calls_in all.wishes);
       each = answers_to_length first (calls_in all.wishes);
       by_rules = refl;
-      printed =
-          printed
-          ∙ ap (λ xs. xs ++ reply_text (closing_reply ending)) (all.printed ∙ ap (λ (x : State). g.before ++ answer_lines (answers_in all.wishes (answers_to x (calls_in all.wishes)))) same)
-          ∙ append_assoc g.before _ _;
+      printed = all.printed ∙ ap (λ (x : State). g.before ++ answer_lines (answers_in all.wishes (answers_to x (calls_in all.wishes)))) same;
       end = s;
       law = law (lines_of g.orders) s₀ s new same all;
       closed = closed;
     }
 
-    pub ended : (ending : Ending) (file new' : List ℕ) → Closed s ending file → new' ≡ new ++ reply_text (closing_reply ending) → EndedAs g ending file new'
-    ended (Refused e) file new' closed printed = absurd closed
-    ended Shipped file new' closed printed = worked Shipped file new' closed printed
-    ended Scrapped file new' closed printed = worked Scrapped file new' closed printed
+    pub ended : (ending : Ending) (file : List ℕ) → Closed s ending file → EndedAs g ending file new
+    ended (Refused e) file closed = absurd closed
+    ended Shipped file closed = worked Shipped file closed
+    ended Scrapped file closed = worked Scrapped file closed

@@ -48,7 +48,7 @@ refusal_small PastCount = omega arith
 refusal_small MalformedOrder = omega arith
 refusal_small OverLimit = omega arith
 
-pub refusal_short : (e : Refusal) → length (reply_text (reply_to (Err e))) ≤ 6
+refusal_short : (e : Refusal) → length (reply_text (reply_to (Err e))) ≤ 6
 refusal_short e =
     let small = refusal_small e in
     omega (arith, length-append (codes "no ") (decimal (number_of e) ++ 10 ∷ []), length-append (decimal (number_of e)) (10 ∷ []), length-decimal-le 2 (number_of e) (omega arith) (omega arith) (omega arith))

@@ -1,5 +1,5 @@
 -- What a day's orders come to.
-use Rattle.std.specs.Prelude.{◌≡◌, ℕ, ◌+◌, ◌*◌, ◌<◌, Bool, ◌||◌, ◌⊎◌, List, [], ◌∷◌, ◌++◌, length, take, Some, None, Option, Ok, Err, Result, nat_lt}
+use Rattle.std.specs.Prelude.{◌≡◌, ℕ, ◌*◌, ◌<◌, Bool, ◌||◌, if◌then◌else◌, List, [], ◌∷◌, ◌++◌, length, take, Some, None, Option, Ok, Err, Result, nat_lt}
 use Rattle.std.specs.Bool.{MatchBool}
 use Rattle.std.specs.List.{flat_map}
 use Rattle.refusal.specs.declared.Refusal.{Refusal}
@@ -14,6 +14,7 @@ use Rattle.loans.specs.History.{history_of}
 use Rattle.loans.specs.Law.{Law}
 use Rattle.loans.specs.Runs.{opened_state}
 use Rattle.loans.specs.Ending.{all_cancelled}
+use Rattle.orders.specs.declared.day.TheConstants.{LONGEST_MASTER, LONGEST_ORDERS}
 use Rattle.orders.specs.declared.day.Ending.{Ending}
 use Rattle.orders.specs.declared.day.Ending.TheVariants.{Refused, Shipped, Scrapped}
 use Rattle.orders.specs.declared.reply.Reply.{Reply}
@@ -23,7 +24,7 @@ use Rattle.orders.specs.Orders.{SpellsNone, deed_for}
 use Rattle.orders.specs.Lines.{lines_of}
 use Rattle.orders.specs.Replies.{reply_text, reply_to}
 
--- the last line that is printed
+-- the last line of a day
 abbrev pub closing_reply : Ending → Reply
 closing_reply (Refused e) = replies.Refused e
 closing_reply Shipped = replies.Ship
@@ -59,7 +60,11 @@ pub record DayInputs : Type 0 where
 
 -- one of the inputs is over its limit
 abbrev pub is_over : DayInputs → Bool
-is_over g = nat_lt 32768 (length g.master) || nat_lt 16384 (length g.orders)
+is_over g = nat_lt LONGEST_MASTER (length g.master) || nat_lt LONGEST_ORDERS (length g.orders)
+
+-- the most that is printed of a day before its last line: six bytes for each byte of the orders, none where they are over their limit
+abbrev pub room_for : List ℕ → ℕ
+room_for orders = if nat_lt LONGEST_ORDERS (length orders) then 0 else 6 * length orders
 
 -- what opening the texture answers
 abbrev pub MasterOpened : DayInputs → Result Layout Refusal → Type 0
@@ -82,8 +87,8 @@ answers_in (None ∷ ws) rs = Err MalformedOrder ∷ answers_in ws rs
 answers_in (Some d ∷ ws) [] = []
 answers_in (Some d ∷ ws) (r ∷ rs) = r ∷ answers_in ws rs
 
--- a day on a texture that was opened: a line is printed for each line of the orders, in their order, and one for how the day ended; the
--- calls that the orders mean were answered by the rules, and the law holds of them, of their answers and of the file
+-- a day on a texture that was opened: a line is printed for each line of the orders, in their order; the calls that the orders mean were
+-- answered by the rules, and the law holds of them, of their answers and of the file
 pub record Worked (g : DayInputs) (ending : Ending) (file new : List ℕ) : Type 0 where
   pub layout : Layout
   pub opened : MasterOpened g (Ok layout)
@@ -92,42 +97,22 @@ pub record Worked (g : DayInputs) (ending : Ending) (file new : List ℕ) : Type
   pub answers : List (Result ℕ Refusal)
   pub each : length answers ≡ length (calls_in wishes)
   pub by_rules : answers ≡ answers_to (opened_state layout.table 1 g.master empty_stock) (calls_in wishes)
-  pub printed : new ≡ g.before ++ (answer_lines (answers_in wishes answers) ++ reply_text (closing_reply ending))
+  pub printed : new ≡ g.before ++ answer_lines (answers_in wishes answers)
   pub end : State
   pub law : Law layout 1 64 4096 g.master (history_of (calls_in wishes) answers) end
   pub closed : Closed end ending file
 
--- where no order is carried out, one line tells why, and nothing changes
-abbrev pub TurnedAway : DayInputs → Refusal → List ℕ → List ℕ → Type 0
-TurnedAway g e file new = (file ≡ g.master) × (new ≡ g.before ++ reply_text (replies.Refused e))
-
--- want of memory comes only where the Vec's capacity was too small for so many bytes more, and nothing changes then
-abbrev pub OutOfRoom : DayInputs → ℕ → ℕ → ℕ → List ℕ → List ℕ → Type 0
-OutOfRoom g len capacity need file new = (capacity < len + need) × (file ≡ g.master) × (new ≡ g.before)
-
--- the most that is printed of a day: six bytes for each byte of the orders, and the last line
-abbrev pub room_for : List ℕ → ℕ
-room_for orders = 6 * length orders + 6
+-- where no order is carried out, nothing is printed, and nothing changes
+abbrev pub TurnedAway : DayInputs → List ℕ → List ℕ → Type 0
+TurnedAway g file new = (file ≡ g.master) × (new ≡ g.before)
 
 -- how a day within the limits ends
 abbrev pub EndedAs : DayInputs → Ending → List ℕ → List ℕ → Type 0
-EndedAs g (Refused e) file new = MasterOpened g (Err e) × TurnedAway g e file new
+EndedAs g (Refused e) file new = MasterOpened g (Err e) × TurnedAway g file new
 EndedAs g Shipped file new = Worked g Shipped file new
 EndedAs g Scrapped file new = Worked g Scrapped file new
 
--- what a day within the limits comes to; where the texture is not opened, six bytes are room enough
-abbrev pub Begun : {E : Type 0} → DayInputs → ℕ → ℕ → Result Ending E → List ℕ → List ℕ → Type 0
-Begun g len capacity (Ok ending) file new = EndedAs g ending file new
-Begun g len capacity (Err x) file new =
-    ((e : Refusal) × MasterOpened g (Err e) × OutOfRoom g len capacity 6 file new)
-    ⊎ ((y : Layout) × MasterOpened g (Ok y) × OutOfRoom g len capacity (room_for g.orders) file new)
-
--- one line tells of a refusal
-abbrev pub Refusing : {E : Type 0} → Refusal → List ℕ → ℕ → ℕ → Result Ending E → List ℕ → Type 0
-Refusing e before len capacity (Ok ending) new = (ending ≡ Refused e) × (new ≡ before ++ reply_text (replies.Refused e))
-Refusing e before len capacity (Err x) new = (capacity < len + 6) × (new ≡ before)
-
--- what a day comes to
-abbrev pub DayDone : {E : Type 0} → DayInputs → ℕ → ℕ → Result Ending E → List ℕ → List ℕ → Type 0
-DayDone g len capacity r file new =
-    MatchBool (is_over g) (Refusing OverLimit g.before len capacity r new × (file ≡ g.master)) (Begun g len capacity r file new)
+-- how a day ends
+abbrev pub DayDone : DayInputs → Ending → List ℕ → List ℕ → Type 0
+DayDone g ending file new =
+    MatchBool (is_over g) ((ending ≡ Refused OverLimit) × TurnedAway g file new) (EndedAs g ending file new)

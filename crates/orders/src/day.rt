@@ -1,13 +1,12 @@
-// A day's orders, from the texture and their text to what is printed and whether the texture ships.
-ghost use Rattle.std.specs.Prelude.{◌≡◌, ◌+◌, ◌*◌, ◌≤◌, ◌++◌, Some, Err, IfOk, length, vec_len, vec_capacity};
+// A day's orders, from the texture and their text to the answers and how the day ends.
+ghost use Rattle.std.specs.Prelude.{◌≡◌, ◌+◌, ◌*◌, ◌<◌, ◌≤◌, ◌++◌, ◌↔◌, Some, IsErr, OnErr, IfOk, length, codes, vec_len, vec_capacity};
 ghost use Rattle.loans.specs.Jobs.{book_of};
 ghost use Rattle.loans.specs.Stocks.{stock_of};
 ghost use Rattle.loans.specs.Strokes.{state_of};
 ghost use Rattle.loans.specs.Scrapping.{AtHome};
 ghost use Rattle.orders.specs.Lines.{lines_of};
 ghost use Rattle.orders.specs.Replies.{reply_text, reply_to};
-ghost use Rattle.orders.specs.declared.day.Ending.TheVariants.{Refused};
-ghost use Rattle.orders.specs.Days.{closing_reply, Closed, Refusing, Begun, DayDone};
+ghost use Rattle.orders.specs.Days.{closing_reply, Closed, room_for, EndedAs, DayDone};
 ghost use Rattle.orders.specs.Steps.{LineAnswered, LinesAnswered};
 
 use crate::lines::Lines;
@@ -17,11 +16,13 @@ use formats::BuiltInCodes;
 use loans::{Answer, Docket, Job, Mark, Shelves, Unspent, scrap, ship};
 use refusal::Refusal;
 use shelf::Shelf;
-use std::alloc::AllocError;
+use std::error::Error;
+use std::fmt;
 
-// How many bytes a texture and the orders of a day can have.
+/// How many bytes a day's texture can have.
 pub const LONGEST_MASTER: usize = 32768;
 
+/// How many bytes a day's orders can have.
 pub const LONGEST_ORDERS: usize = 16384;
 
 const JOB_NUMBER: u32 = 1;
@@ -35,10 +36,7 @@ const MOST_KEPT: usize = 4096;
 // answered with a number has more bytes than one, and its answer at most nine, since loan numbers end at 65,535.
 const PRINTED_FOR_A_BYTE: usize = 6;
 
-// `scrap` or `no 27`, and its end.
-const LONGEST_ENDING: usize = 6;
-
-// How a day ends: the texture is not opened, or all loans were handed in and it ships, or it does not.
+/// How a day ends: the texture or the orders are refused, or all loans were handed in and the texture ships, or it does not.
 #[derive(Clone, Copy, PartialEq, Eq, Debug)]
 pub enum Ending {
     Refused(Refusal),
@@ -46,6 +44,21 @@ pub enum Ending {
     Scrapped,
 }
 
+/// There is not so much room for the answers as `room_for` tells.
+#[derive(Clone, Copy, PartialEq, Eq, Debug)]
+pub struct NoRoom;
+
+impl fmt::Display for NoRoom {
+    ghost output = { λ _. Some (codes "no room for the answers") };
+
+    fn fmt<W: fmt::Write>(&self, f: &mut fmt::Formatter<W>) -> fmt::Result {
+        write!(f, "no room for the answers")
+    }
+}
+
+impl Error for NoRoom {}
+
+/// The last line of a day.
 impl From<Ending> for Reply {
     ghost from_gives = { λ ending reply. reply ≡ closing_reply ending };
 
@@ -74,7 +87,8 @@ fn print(printed: &mut Vec<u8>, reply: Reply)
 fn answer(job: &mut Job, file: &mut [u8], shelves: &mut Shelves<'_>, line: &[u8]) -> Answer
     requires short { length line.now ≤ 16384 }
     requires few { (stock_of shelves.old).most_marks ≤ 65535 }
-    ensures answered { LineAnswered line.now (state_of job.old file.old shelves.old) result (state_of job.new file.new shelves.new) }
+    ensures answered { LineAnswered line.now (state_of job.old file.old shelves.old) result
+        (state_of job.new file.new shelves.new) }
     ensures small { IfOk result (λ number. number ≤ 65535) }
 {
     Order::parse(line)?.carry_out(job, file, shelves)
@@ -91,7 +105,9 @@ fn answer_all(
     requires short { length orders.now ≤ 16384 }
     requires few { (stock_of shelves.old).most_marks ≤ 65535 }
     requires room { vec_len printed.old + 6 * length orders.now ≤ vec_capacity printed.old }
-    ensures answered { LinesAnswered (lines_of orders.now) (state_of job.old file.old shelves.old) printed.old.items (state_of job.new file.new shelves.new) printed.new.items }
+    ensures answered { LinesAnswered (lines_of orders.now)
+        (state_of job.old file.old shelves.old) printed.old.items
+        (state_of job.new file.new shelves.new) printed.new.items }
     ensures length { vec_len printed.new ≤ vec_len printed.old + 6 * length orders.now }
     ensures capacity { vec_capacity printed.new ≡ vec_capacity printed.old }
 {
@@ -115,49 +131,66 @@ fn close(docket: Docket, job: &mut Job, file: &mut [u8], shelves: &mut Shelves<'
     Ending::Shipped
 }
 
-// One line tells why no order is carried out.
-fn refuse(printed: &mut Vec<u8>, refusal: Refusal) -> Result<Ending, AllocError>
-    ensures { Refusing refusal printed.old.items (vec_len printed.old) (vec_capacity printed.old) result printed.new.items }
-{
-    printed.reserve(LONGEST_ENDING)?;
-    print(printed, Reply::Refused(refusal));
-    Ok(Ending::Refused(refusal))
-}
-
-// A day within the limits. No call is made before there is room for all that can be printed.
-fn work(master: &mut [u8], orders: &[u8], printed: &mut Vec<u8>) -> Result<Ending, AllocError>
-    requires { length orders.now ≤ 16384 }
-    ensures { Begun (record { master = master.old; orders = orders.now; before = printed.old.items }) (vec_len printed.old) (vec_capacity printed.old) result master.new printed.new.items }
+// A day within the limits.
+fn work(master: &mut [u8], orders: &[u8], printed: &mut Vec<u8>) -> Ending
+    requires short { length orders.now ≤ 16384 }
+    requires room { vec_len printed.old + 6 * length orders.now ≤ vec_capacity printed.old }
+    ensures ended { EndedAs
+        (record { master = master.old; orders = orders.now; before = printed.old.items })
+        result master.new printed.new.items }
+    ensures length { vec_len printed.new ≤ vec_len printed.old + 6 * length orders.now }
+    ensures capacity { vec_capacity printed.new ≡ vec_capacity printed.old }
 {
     let mut marks = [Mark::default(); MOST_MARKS];
     let mut bytes = [0; MOST_KEPT];
     let mut shelves = Shelves::of(Shelf::new(&mut marks), Shelf::new(&mut bytes));
     let mut job = Job::empty();
-    let docket = match job.open(master, JOB_NUMBER, &BuiltInCodes) {
-        Ok(docket) => docket,
-        Err(refusal) => return refuse(printed, refusal),
-    };
-    if let Err(error) = printed.reserve(PRINTED_FOR_A_BYTE * orders.len() + LONGEST_ENDING) {
-        let _ = close(docket, &mut job, master, &mut shelves);
-        return Err(error);
+    match job.open(master, JOB_NUMBER, &BuiltInCodes) {
+        Ok(docket) => {
+            answer_all(&mut job, master, &mut shelves, orders, printed);
+            close(docket, &mut job, master, &mut shelves)
+        }
+        Err(refusal) => Ending::Refused(refusal),
     }
-    answer_all(&mut job, master, &mut shelves, orders, printed);
-    let ending = close(docket, &mut job, master, &mut shelves);
-    print(printed, Reply::from(ending));
-    Ok(ending)
 }
 
-// Carries out a day's orders on a texture, in place, and prints behind what stands in the Vec. Where there is no memory for what can be
-// printed, nothing changes.
-pub fn run_day(
-    master: &mut [u8],
-    orders: &[u8],
-    printed: &mut Vec<u8>,
-) -> Result<Ending, AllocError>
-    ensures { DayDone (record { master = master.old; orders = orders.now; before = printed.old.items }) (vec_len printed.old) (vec_capacity printed.old) result master.new printed.new.items }
+/// How many bytes a day of such orders prints at most, but for its last line: six for each byte of the orders, and none where they are
+/// over their limit.
+pub fn room_for(orders: &[u8]) -> usize
+    ensures room { result ≡ room_for orders.now }
+    ensures within { length orders.now ≤ 16384 → result ≡ 6 * length orders.now }
+    ensures over { 16384 < length orders.now → result ≡ 0 }
 {
-    if master.len() > LONGEST_MASTER || orders.len() > LONGEST_ORDERS {
-        return refuse(printed, Refusal::OverLimit);
+    if orders.len() > LONGEST_ORDERS {
+        return 0;
     }
-    work(master, orders, printed)
+    PRINTED_FOR_A_BYTE * orders.len()
+}
+
+/// Carries out a day's orders on a texture, in place, and tells how the day ends. Prints the answer to each order behind what stands in
+/// the Vec; the last line is `Reply::from` of the ending, for the caller to print. Allocates nothing: where the Vec's capacity is too
+/// small for what stands in it and `room_for` the orders, it answers `NoRoom` and changes nothing.
+///
+/// The ending is a refusal, and nothing else changes: OverLimit where the texture or the orders have more bytes than they can, then those
+/// of `Job::open`.
+pub fn run_day(master: &mut [u8], orders: &[u8], printed: &mut Vec<u8>) -> Result<Ending, NoRoom>
+    ensures no_room { IsErr result
+        ↔ (vec_capacity printed.old < vec_len printed.old + room_for orders.now) }
+    ensures master_stays { OnErr result (master.new ≡ master.old) }
+    ensures printed_stays { OnErr result (printed.new.items ≡ printed.old.items) }
+    ensures day { IfOk result (λ ending. DayDone
+        (record { master = master.old; orders = orders.now; before = printed.old.items })
+        ending master.new printed.new.items) }
+    ensures most { vec_len printed.new ≤ vec_len printed.old + room_for orders.now }
+    ensures capacity { vec_capacity printed.new ≡ vec_capacity printed.old }
+    ensures longest_master { LONGEST_MASTER ≡ 32768 }
+    ensures longest_orders { LONGEST_ORDERS ≡ 16384 }
+{
+    if printed.capacity() - printed.len() < room_for(orders) {
+        return Err(NoRoom);
+    }
+    if master.len() > LONGEST_MASTER || orders.len() > LONGEST_ORDERS {
+        return Ok(Ending::Refused(Refusal::OverLimit));
+    }
+    Ok(work(master, orders, printed))
 }

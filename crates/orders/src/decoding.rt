@@ -44,7 +44,7 @@ impl<'a> Digits<'a> {
         Some(Digits { digits: text })
     }
 
-    // The digits as they stand in the line.
+    /// The digits as they stand in the line, two for each byte.
     pub fn as_bytes(&self) -> &'a [u8]
         ensures { result.now ≡ digits_of self.now }
     {

@@ -9,7 +9,7 @@ mod number;
 mod order;
 mod reply;
 
-pub use day::{Ending, LONGEST_MASTER, LONGEST_ORDERS, run_day};
+pub use day::{Ending, LONGEST_MASTER, LONGEST_ORDERS, NoRoom, room_for, run_day};
 pub use digits::Digits;
 pub use order::Order;
 pub use reply::Reply;

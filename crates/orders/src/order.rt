@@ -15,18 +15,20 @@ use dds::Piece;
 use loans::{Answer, Call, Job, Painting, Shelves};
 use refusal::Refusal;
 
-// A line of the order text, read. The bytes of a paint stay in the line, as digits.
+/// A line of the order text, read. Its numbers have 32 bits; the bytes of a paint stay in the line, as digits.
 #[derive(Clone, Copy, PartialEq, Eq, Debug)]
 pub enum Order<'a> {
+    /// `L element level slice borrower`
     Loan {
         piece: Piece,
         borrower: u32,
     },
-    // Of the element's first piece.
+    /// `L element borrower`, of the element's first piece
     LoanElement {
         element: u32,
         borrower: u32,
     },
+    /// `P loan borrower row first digits`
     Paint {
         loan: u32,
         borrower: u32,
@@ -34,13 +36,16 @@ pub enum Order<'a> {
         first: u32,
         digits: Digits<'a>,
     },
+    /// `U loan borrower`
     Undo {
         loan: u32,
         borrower: u32,
     },
+    /// `K loan`
     Keep {
         loan: u32,
     },
+    /// `C loan`
     Cancel {
         loan: u32,
     },
@@ -122,7 +127,8 @@ fn order_for<'a>(letter: char, fields: &[&'a [u8]]) -> Option<Order<'a>>
 
 // What stands between the spaces of a line; none where that is more than any order has.
 fn words(line: &[u8]) -> Option<ArrayVec<&[u8], 6>>
-    ensures { MatchOption result (6 < length (slice_split is_space line.now)) (λ words. map now_of words.items ≡ slice_split is_space line.now) }
+    ensures { MatchOption result (6 < length (slice_split is_space line.now))
+        (λ words. map now_of words.items ≡ slice_split is_space line.now) }
 {
     let mut words = ArrayVec::new();
     words.extend(line.split(|byte| *byte == b' ')).ok()?;
@@ -139,7 +145,7 @@ impl<'a> Order<'a> {
         }
     }
 
-    // The order that a line tells. Refuses with MalformedOrder where it tells none.
+    /// The order that a line, without its end, tells. Refuses with MalformedOrder where it tells none.
     #[tactic(auto, using(crate::proofs::Spelled::parsed))]
     pub fn parse(line: &'a [u8]) -> Result<Order<'a>, Refusal>
         ensures line { Parsed line.now result }
@@ -156,7 +162,8 @@ impl<'a> Order<'a> {
         shelves: &mut Shelves<'_>,
     ) -> Answer
         requires { HasShortDigits self }
-        ensures { Called (deed_for (as_worded self.entry)) job.old file.old shelves.old result job.new file.new shelves.new }
+        ensures { Called (deed_for (as_worded self.entry)) job.old file.old shelves.old result
+            job.new file.new shelves.new }
     {
         let call = match self {
             Order::Loan { piece, borrower } => Call::Loan { piece, borrower },

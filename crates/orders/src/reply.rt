@@ -6,16 +6,20 @@ use arrayvec::ArrayString;
 use loans::Answer;
 use refusal::Refusal;
 
-// A line of the output: an order that was carried out, with the number that it answers, an order or an input that was refused, and how
-// the day ended.
+/// A line of the output.
 #[derive(Clone, Copy, PartialEq, Eq, Debug)]
 pub enum Reply {
+    /// an order was carried out, and answers the number
     Done(u32),
+    /// an order, or the day, was refused
     Refused(Refusal),
+    /// the day ended, and the texture ships
     Ship,
+    /// the day ended with a loan out
     Scrap,
 }
 
+/// The line that answers an order.
 impl From<Answer> for Reply {
     ghost from_gives = { λ answer reply. reply ≡ reply_to answer };
 
@@ -28,7 +32,7 @@ impl From<Answer> for Reply {
 }
 
 impl Reply {
-    // The line that is printed for it, with its end.
+    /// The line that is printed for it, with its end: `ok` and the number, `no` and the refusal's number, `ship` or `scrap`.
     pub fn line(self) -> ArrayString<14>
         ensures { result.bytes ≡ reply_text self }
     {
