@@ -18,8 +18,8 @@ pub struct Extent {
 }
 
 /// A way to lay an image out, known by two functions of its width and height: the bytes of a row and the number of rows.
-/// Whoever adds one shows that its answers are these two functions, and that the law holds. Asking changes nothing in it: it is
-/// plain data that is copied, so no cell in it can remember that it was asked.
+/// Whoever adds one shows that its answers are these two functions, and that the law holds. Asking changes nothing in it: it can
+/// be copied, so there is no cell in it that could remember that it was asked.
 pub trait Family: Copy {
     ghost row_bytes: { Self → ℕ → ℕ → ℕ };
 
