@@ -5,7 +5,8 @@ They are computed here from first principles, and not by the rules' formulas:
   - an image's row bytes and rows by counting: bits one pixel after the other, pairs and blocks by the set of those that some
     pixel of a row or a column lies in;
   - a DXGI code's format from the name that Microsoft's DXGI_FORMAT enumeration gives the code: the bits of its channels, BC1
-    and BC4 as blocks of 8 bytes, the other BC formats as blocks of 16, two pixels in one name as a pair.
+    and BC4 as blocks of 8 bytes, the other BC formats as blocks of 16, two pixels in one name as a pair. The name itself is expected
+    where the code has a format.
 """
 import pathlib
 import re
@@ -157,6 +158,10 @@ every = [format_of(n) for n in names()]
 every += [None] * (131 - len(every))
 out += ['];', '', '// The format of each DXGI code from 0 to 130.', 'pub const DXGI: [Option<FormatName>; 131] = [']
 out += [f'    {option(f)},' for f in every]
+out += ['];', '', '// The name of each DXGI code from 0 to 130 that has a format.', 'pub const DXGI_NAMES: [Option<&str>; 131] = [']
+named = [n if format_of(n) else None for n in names()]
+named += [None] * (131 - len(named))
+out += [f'    Some("{n}"),' if n else '    None,' for n in named]
 plain = [(number(c), format_of(n)) for c, n in PLAIN.items()] + [(number(c), None) for c in NEAR]
 out += ['];', '', '// Codes of a plain header with their formats, and near misses.', f'pub const PLAIN: [(u32, Option<FormatName>); {len(plain)}] = [']
 out += [f'    ({c}, {option(f)}),' for c, f in plain]

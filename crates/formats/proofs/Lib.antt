@@ -1,2 +1,3 @@
 mod Alike
 mod Named
+mod DxgiNamed

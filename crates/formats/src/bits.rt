@@ -15,8 +15,8 @@ const YUV: u32 = 0x200;
 
 const LUMINANCE: u32 = 0x2_0000;
 
-// The format of plain pixels: linear, with the bit count for its size. None where no flag announces plain pixels, or the
-// bit count is not 8, 16, 24 or 32.
+/// The format of plain pixels: linear, with the bit count for its size. None where no flag announces plain pixels, or the
+/// bit count is not 8, 16, 24 or 32.
 pub fn bit_count_format(pixel_flags: u32, bit_count: u32) -> Option<Format>
     ensures { option_map name_of result ≡ name_by_bit_count pixel_flags bit_count }
 {

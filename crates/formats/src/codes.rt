@@ -8,16 +8,16 @@ ghost use Rattle.formats.specs.Codes.{name_for, plain_rows, Unambiguous};
 use crate::kinds::{Format, FormatName};
 use crate::tables::{CodeRow, format_in};
 
-// A table of the codes other than DX10, known by the name that it has for each code.
-pub trait CodeTable {
+/// A table of the codes other than DX10, known by the name that it has for each code. Asking changes nothing in it.
+pub trait CodeTable: Copy {
     ghost name_at: { Self → ℕ → Option FormatName };
 
-    // The format that a code names, if any.
+    /// The format that a code names, if any.
     fn format_of(&self, code: u32) -> Option<Format>
         ensures { option_map name_of result ≡ name_at self.now code };
 }
 
-// The table that comes with the library.
+/// The table that comes with the library.
 #[derive(Clone, Copy)]
 pub struct BuiltInCodes;
 

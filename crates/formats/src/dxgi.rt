@@ -96,7 +96,7 @@ const DXGI: [CodeRange; 17] = [
     },
 ];
 
-// The format that a DXGI code names, if any.
+/// The format that a DXGI code names, if any.
 pub fn dxgi_format(code: u32) -> Option<Format>
     ensures names { option_map name_of result ≡ name_for dxgi_rows code }
     ensures unambiguous { Unambiguous dxgi_rows }

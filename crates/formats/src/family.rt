@@ -9,22 +9,23 @@ ghost use Rattle.formats.specs.declared.kinds.Format.TheVariants.{Linear, Paired
 
 use crate::kinds::{Block, Format, Linear, Paired};
 
-// What an image takes in the file: rows one after the other, each of so many bytes.
-// Of an image with a side out of range it is the default: nothing.
+/// What an image takes in the file: rows one after the other, each of so many bytes.
+/// Of an image with a side out of range it is the default: nothing.
 #[derive(Clone, Copy, PartialEq, Eq, Debug, Default)]
 pub struct Extent {
     pub row_bytes: u32,
     pub rows: u32,
 }
 
-// A way to lay an image out, known by two functions of its width and height: the bytes of a row and the number of rows.
-// Whoever adds one shows that its answers are these two functions, and that the law holds.
-pub trait Family {
+/// A way to lay an image out, known by two functions of its width and height: the bytes of a row and the number of rows.
+/// Whoever adds one shows that its answers are these two functions, and that the law holds. Asking changes nothing in it: it can
+/// be copied, so there is no cell in it that could remember that it was asked.
+pub trait Family: Copy {
     ghost row_bytes: { Self → ℕ → ℕ → ℕ };
 
     ghost rows: { Self → ℕ → ℕ → ℕ };
 
-    // Both functions at an image's sides; 0 and 0 where a side is not 1 to 16,384.
+    /// Both functions at an image's sides, in pixels; 0 and 0 where a side is not 1 to 16,384.
     fn ask(&self, width: u32, height: u32) -> Extent
         ensures { result ≡ extent_of (row_bytes self.now) (rows self.now) width height };
 

@@ -2,26 +2,26 @@
 ghost use Rattle.std.specs.Prelude.{◌≡◌, ◌≤◌, true, false, MatchOption};
 ghost use Rattle.formats.specs.Sizes.{is_pixel_size, is_block_size};
 
-// Pixel after pixel along a row, each of the same number of bits.
+/// Pixel after pixel along a row, each of the same number of bits.
 #[derive(Clone, Copy)]
 pub struct Linear {
     bits: u32,
     ghost ok: { is_pixel_size bits ≡ true },
 }
 
-// Two neighbouring pixels share four bytes.
+/// Two neighbouring pixels share four bytes.
 #[derive(Clone, Copy)]
 pub struct Paired;
 
-// Blocks of four by four pixels, each of the same number of bytes. Other sizes are allowed than of linear pixels, and rows are laid out
-// otherwise, so a kind generic over both rules would say no less.
+/// Blocks of four by four pixels, each of the same number of bytes. Other sizes are allowed than of linear pixels, and rows are laid out
+/// otherwise, so a kind generic over both rules would say no less.
 #[derive(Clone, Copy)]
 pub struct Block {
     bytes: u32,
     ghost ok: { is_block_size bytes ≡ true },
 }
 
-// A pixel format: one of the three, with a size that is allowed for it.
+/// A pixel format: one of the three, with a size that is allowed for it.
 #[derive(Clone, Copy)]
 pub enum Format {
     Linear(Linear),
@@ -29,8 +29,8 @@ pub enum Format {
     Block(Block),
 }
 
-// A format as a table writes it: the arrangement, with the bits of a pixel or the bytes of a block.
-// It may say a size that no format has.
+/// A format as a table writes it: the arrangement, with the bits of a pixel or the bytes of a block.
+/// It may say a size that no format has.
 #[derive(Clone, Copy, PartialEq, Eq, Debug)]
 pub enum FormatName {
     Linear(u32),
@@ -39,8 +39,8 @@ pub enum FormatName {
 }
 
 impl Linear {
-    // Pixels of so many bits; none where no pixel has that size. An `if` and no `then`, whose closure would have to require the size again;
-    // so too for blocks.
+    /// Pixels of so many bits; none where no pixel has that size. An `if` and no `then`, whose closure would have to require the size again;
+    /// so too for blocks.
     pub fn new(bits: u32) -> Option<Linear>
         ensures { MatchOption result (is_pixel_size bits ≡ false) (λ f. (is_pixel_size bits ≡ true) × (f.bits ≡ bits)) }
     {
@@ -60,7 +60,7 @@ impl Linear {
 }
 
 impl Block {
-    // Blocks of so many bytes; none where no block has that size.
+    /// Blocks of so many bytes; none where no block has that size.
     pub fn new(bytes: u32) -> Option<Block>
         ensures { MatchOption result (is_block_size bytes ≡ false) (λ f. (is_block_size bytes ≡ true) × (f.bytes ≡ bytes)) }
     {

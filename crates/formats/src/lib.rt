@@ -4,6 +4,7 @@
 mod bits;
 mod codes;
 mod dxgi;
+mod dxgi_names;
 #[cfg(test)]
 mod expected;
 mod family;
@@ -17,6 +18,7 @@ mod text;
 pub use bits::bit_count_format;
 pub use codes::{BuiltInCodes, CodeTable};
 pub use dxgi::dxgi_format;
+pub use dxgi_names::dxgi_name;
 pub use family::{Extent, Family};
 pub use kinds::{Block, Format, FormatName, Linear, Paired};
 pub use names::NoSuchSize;

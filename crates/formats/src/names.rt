@@ -7,7 +7,7 @@ use crate::kinds::{Block, Format, FormatName, Linear};
 use std::error::Error;
 use std::fmt;
 
-// A name that says a size which no format has.
+/// A name that says a size which no format has.
 #[derive(Clone, Copy, PartialEq, Eq, Debug)]
 pub struct NoSuchSize(pub FormatName);
 

@@ -7,7 +7,7 @@ ghost use Rattle.formats.specs.Codes.{name_in, has_code};
 
 use crate::kinds::{Format, FormatName};
 
-// The codes from `first` to `last`, both included, name one format.
+/// The codes from `first` to `last`, both included, name one format.
 #[derive(Clone, Copy)]
 pub struct CodeRange {
     pub first: u32,
@@ -15,15 +15,15 @@ pub struct CodeRange {
     pub name: FormatName,
 }
 
-// One code names a format.
+/// One code names a format.
 #[derive(Clone, Copy)]
 pub struct CodeRow {
     pub code: u32,
     pub name: FormatName,
 }
 
-// A line of a table: it gives a range of codes a format. `Into<CodeRange>` would not do: its ghost member is a relation, and what a
-// whole table means is a function of its lines.
+/// A line of a table: it gives a range of codes a format. `Into<CodeRange>` would not do: its ghost member is a relation, and what a
+/// whole table means is a function of its lines.
 pub trait Line {
     ghost means: { Self → CodeRange };
 

@@ -2,9 +2,11 @@
 use crate::bits::bit_count_format;
 use crate::codes::{BuiltInCodes, CodeTable};
 use crate::dxgi::dxgi_format;
-use crate::expected::{DXGI, PLAIN, SIDES, SIZES, Sizes};
+use crate::dxgi_names::dxgi_name;
+use crate::expected::{DXGI, DXGI_NAMES, PLAIN, SIDES, SIZES, Sizes};
 use crate::family::{Extent, Family};
 use crate::kinds::{Block, Format, FormatName, Linear};
+use crate::names::NoSuchSize;
 use std::process::Abort;
 use std::test::Fail;
 
@@ -45,6 +47,15 @@ fn every_dxgi_code(rt: HostRuntime) {
         assert_eq!(rt; name_of(dxgi_format(code)), *expected);
     }
     assert_eq!(rt; name_of(dxgi_format(u32::MAX)), None);
+}
+
+#[test]
+fn the_name_of_every_dxgi_code(rt: HostRuntime) {
+    assert_eq!(rt; DXGI_NAMES.len(), 131);
+    for (code, expected) in (0..).zip(&DXGI_NAMES) {
+        assert_eq!(rt; dxgi_name(code), *expected);
+    }
+    assert_eq!(rt; dxgi_name(u32::MAX), None);
 }
 
 #[test]
@@ -92,4 +103,24 @@ fn sizes_that_no_format_has(rt: HostRuntime) {
     for bytes in [0, 1, 4, 7, 9, 12, 15, 17, 32] {
         assert!(rt; Block::new(bytes).is_none());
     }
+}
+
+#[test]
+fn names_as_text(rt: HostRuntime) -> Result<(), Fail> {
+    for (name, text) in [
+        (FormatName::Linear(1), "linear of 1 bit"),
+        (FormatName::Linear(24), "linear of 24 bits"),
+        (FormatName::Paired, "paired"),
+        (FormatName::Block(16), "block of 16 bytes"),
+    ] {
+        assert_eq!(rt; name.to_string(rt.alloc())?.as_str(), text);
+    }
+    for (name, text) in [
+        (FormatName::Linear(7), "no such size: linear of 7 bits"),
+        (FormatName::Block(12), "no such size: block of 12 bytes"),
+    ] {
+        assert_eq!(rt; Format::try_from(name).err(), Some(NoSuchSize(name)));
+        assert_eq!(rt; NoSuchSize(name).to_string(rt.alloc())?.as_str(), text);
+    }
+    Ok(())
 }

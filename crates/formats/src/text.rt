@@ -10,9 +10,10 @@ impl fmt::Display for FormatName {
 
     fn fmt<W: fmt::Write>(&self, f: &mut fmt::Formatter<W>) -> fmt::Result {
         match self {
-            FormatName::Linear(bits) => write!(f, "linear {bits}"),
+            FormatName::Linear(1) => write!(f, "linear of 1 bit"),
+            FormatName::Linear(bits) => write!(f, "linear of {bits} bits"),
             FormatName::Paired => write!(f, "paired"),
-            FormatName::Block(bytes) => write!(f, "block {bytes}"),
+            FormatName::Block(bytes) => write!(f, "block of {bytes} bytes"),
         }
     }
 }

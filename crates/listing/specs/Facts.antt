@@ -5,6 +5,7 @@ use Rattle.refusal.specs.declared.Refusal.TheVariants.{UnknownFormat}
 use Rattle.formats.specs.declared.kinds.FormatName.{FormatName}
 use Rattle.formats.specs.Codes.{name_for, plain_rows}
 use Rattle.listing.specs.declared.facts.Facts.{Facts}
+use Rattle.listing.specs.Sources.{source_of}
 use Rattle.dds.specs.declared.header.Header.{Header}
 use Rattle.dds.specs.declared.shape.Shape.{Shape}
 use Rattle.dds.specs.Headers.{header_read, header_name}
@@ -14,7 +15,8 @@ use Rattle.dds.specs.Shapes.{shape_read}
 -- where the format is known and the shape was read so
 abbrev facts_shaped : Header → FormatName → Result Shape Refusal → Result Facts Refusal
 facts_shaped h name (Err e) = Err e
-facts_shaped h name (Ok s) = Ok (record { format = name; shape = s; width = h.width; height = h.height; levels = levels_of h })
+facts_shaped h name (Ok s) =
+    Ok (record { source = source_of h; format = name; shape = s; width = h.width; height = h.height; levels = levels_of h })
 
 -- where the header names that format, or none that is known
 abbrev facts_named : Header → Option FormatName → Result Facts Refusal

@@ -1,3 +1,4 @@
+pub mod Sources
 pub mod Facts
 pub mod Rows
 pub mod Texts

@@ -2,13 +2,16 @@
 ghost use Rattle.std.specs.Prelude.{◌≡◌};
 ghost use Rattle.listing.specs.Facts.{facts_read};
 
+use crate::source::{FormatSource, source_of};
 use dds::{FileHead, Header, Shape};
 use formats::{BuiltInCodes, FormatName};
 use refusal::Refusal;
 
-// The format, the shape, the sides of the first level and the number of levels.
+/// What a header says of its file: where it says the format and which it is, the shape, the sides of the first level in pixels and the
+/// number of levels.
 #[derive(Clone, Copy, PartialEq, Eq, Debug)]
 pub struct Facts {
+    pub source: FormatSource,
     pub format: FormatName,
     pub shape: Shape,
     pub width: u32,
@@ -17,8 +20,8 @@ pub struct Facts {
 }
 
 impl Facts {
-    // From a file's head and its length, with the built-in table of codes. Refuses as opening does, but does not look where the
-    // pieces end.
+    /// From a file's head and its length, with the built-in table of codes. Refuses as opening does, with 1 to 8 in their order, but does
+    /// not look where the pieces end (9).
     pub fn read(head: FileHead<'_>) -> Result<Facts, Refusal>
         ensures { result ≡ facts_read head.entry.bytes.now head.entry.length }
     {
@@ -26,6 +29,7 @@ impl Facts {
         let format = header.format(&BuiltInCodes).ok_or(Refusal::UnknownFormat)?;
         let shape = header.read_shape()?;
         Ok(Facts {
+            source: source_of(&header),
             format: FormatName::from(format),
             shape,
             width: header.width,

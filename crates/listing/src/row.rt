@@ -1,10 +1,12 @@
 // What is told of a piece, and of a byte.
+ghost use Rattle.std.specs.Prelude.{◌≡◌};
 ghost use Rattle.listing.specs.Rows.{RowOf, OwnerAt};
+ghost use Rattle.listing.specs.Texts.{heading_text};
 
 use dds::{Area, Layout, Piece};
 use refusal::Refusal;
 
-// A line of the list of pieces: the piece, the sides of its level, and where it stands.
+/// A line of the list of pieces: the piece, the sides of its level in pixels, and where it stands in the file.
 #[derive(Clone, Copy, PartialEq, Eq, Debug)]
 pub struct Row {
     pub piece: Piece,
@@ -14,7 +16,14 @@ pub struct Row {
 }
 
 impl Row {
-    // The row of a piece in the list of pieces. Refuses with NoSuchPiece.
+    /// The line above rows: what stands in each of their columns.
+    pub fn heading() -> &'static str
+        ensures { result.now ≡ heading_text }
+    {
+        "element level slice width height      place     length row-bytes  rows"
+    }
+
+    /// The row of a piece in the list of pieces. Refuses with NoSuchPiece.
     pub fn of(layout: &Layout, piece: Piece) -> Result<Row, Refusal>
         ensures { RowOf layout.now piece result }
     {
@@ -29,13 +38,13 @@ impl Row {
     }
 }
 
-// Whose byte stands at a place, as a layout answers it: a piece's, at an offset in it, or nobody's, as those of the header. It is a
-// type of its own since an Option has no text.
+/// Whose byte stands at a place, as a layout answers it: a piece's, at an offset in it, or nobody's, as those of the header. It is a
+/// type of its own since an Option has no text.
 #[derive(Clone, Copy, PartialEq, Eq, Debug)]
 pub struct Owner(pub Option<(Piece, u32)>);
 
 impl Owner {
-    // Whose byte stands at a place. Refuses with PastFileEnd.
+    /// Whose byte stands at a place, which is counted in bytes from the file's first. Refuses with PastFileEnd.
     pub fn at(layout: &Layout, place: u64) -> Result<Owner, Refusal>
         ensures { OwnerAt layout.now place result }
     {

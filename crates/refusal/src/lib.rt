@@ -9,6 +9,10 @@ ghost use Rattle.refusal.specs.Meanings.{meaning_of, refusal_text};
 use std::error::Error;
 use std::fmt;
 
+#[cfg(test)]
+mod tests;
+
+/// Why a call is turned down: a number for users and other programs, and a meaning in words.
 #[derive(Clone, Copy, PartialEq, Eq, Debug)]
 pub enum Refusal {
     WrongLength = 1,
@@ -41,7 +45,7 @@ pub enum Refusal {
 }
 
 impl Refusal {
-    // The number by which users and other programs know it.
+    /// The number by which users and other programs know it.
     pub fn number(self) -> u32
         ensures value { result ≡ number_of self }
         ensures unique { EachNumberIsOneRefusal }
@@ -49,7 +53,7 @@ impl Refusal {
         self as u32
     }
 
-    // What it means, in words.
+    /// What it means, in words.
     pub fn meaning(self) -> &'static str
         ensures { result.now ≡ meaning_of self }
     {

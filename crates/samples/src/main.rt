@@ -1,14 +1,20 @@
-// Lists the pieces of files that other tools wrote, each with the sum of its bytes. The expected output, in the file stdout beside
-// this crate's src, was made by tools/expected_samples.py, which reads the headers itself; it uses none of this code.
+// Lists the pieces of files that other tools wrote, each with the sum of its bytes, and whose bytes stand at some places. The expected
+// output, in the file stdout beside this crate's src, was made by tools/expected_samples.py, which reads the headers itself; it uses
+// none of this code.
 #![tactic(auto)]
 
 use dds::{FileHead, Layout, Piece};
 use formats::BuiltInCodes;
-use listing::{Facts, Row};
+use listing::{Facts, Owner, Row};
 use refusal::Refusal;
 use std::fs::File;
 use std::io::Read;
 use std::{env, io};
+
+// Places in headers, at the begin, in the middle and at the end of pieces, and past the end of some files.
+const PLACES: [u64; 14] = [
+    0, 127, 128, 147, 148, 227, 271, 272, 399, 400, 641, 1027, 1126, 5587,
+];
 
 fn read_file(rt: &HostRuntime, name: &str) -> io::Result<Vec<u8>> {
     let mut file = File::open(rt, name)?;
@@ -31,10 +37,22 @@ fn row_and_sum(layout: &Layout, file: &[u8], piece: Piece) -> Result<(Row, u64),
 }
 
 fn print_pieces(rt: &HostRuntime, layout: &Layout, file: &[u8]) -> io::Result<()> {
+    let heading = Row::heading();
+    println!(rt; "{heading} sum")?;
     for piece in layout.pieces() {
         match row_and_sum(layout, file, piece) {
             Ok((row, sum)) => println!(rt; "{row} {sum}")?,
             Err(refusal) => println!(rt; "{refusal}")?,
+        }
+    }
+    Ok(())
+}
+
+fn print_owners(rt: &HostRuntime, layout: &Layout) -> io::Result<()> {
+    for place in PLACES {
+        match Owner::at(layout, place) {
+            Ok(owner) => println!(rt; "byte {place}: {owner}")?,
+            Err(refusal) => println!(rt; "byte {place}: {refusal}")?,
         }
     }
     Ok(())
@@ -49,7 +67,10 @@ fn print_sample(rt: &HostRuntime, name: &str) -> io::Result<()> {
         Err(refusal) => println!(rt; "{refusal}")?,
     }
     match Layout::read(head, &BuiltInCodes) {
-        Ok(layout) => print_pieces(rt, &layout, &file),
+        Ok(layout) => {
+            print_pieces(rt, &layout, &file)?;
+            print_owners(rt, &layout)
+        }
         Err(refusal) => println!(rt; "{refusal}"),
     }
 }

@@ -1,9 +1,8 @@
 -- Runs of a list within its first elements: what a shelf's memory gives for its contents.
-use Rattle.std.proofs.Common.{◌≡◌, ℕ, ◌+◌, ◌-◌, ◌≤◌, List, ◌++◌, length, take, drop, ap, ◌∙◌, arith, rules}
-use lib.Seq.{paste}
+use Rattle.std.proofs.Common.{◌≡◌, ℕ, ◌+◌, ◌-◌, ◌≤◌, List, ◌++◌, length, take, drop, arith, rules}
 use Rattle.std.proofs.lemmas.List.{take-take, drop-take, same_lists, places}
 use Rattle.std.proofs.lemmas.List.Edits.{take-paste}
-use Rattle.shelf.specs.Calls.{slid_down}
+use Rattle.shelf.specs.Calls.{slid_down, without_run}
 
 module _ {X : Type 0} where
   -- a run within the first elements is the memory's
@@ -18,14 +17,19 @@ module _ {X : Type 0} where
       let first : take count (take rest (drop position xs)) ≡ take count (drop position xs) = take-take count rest (drop position xs) fewer in
       cc
 
-  -- a copy of a run downwards in the memory moves it in the first elements
+  -- a run moved down in the memory is moved in the first elements
   pub slid_within : (xs : List X) (held from count to : ℕ) → to ≤ from → from + count ≤ held → held ≤ length xs
-      → take held (paste xs to (drop from xs) (from + count - from)) ≡ slid_down from count to (take held xs)
-  slid_within xs held from count to down inside lent =
-      let same : from + count - from ≡ count = omega arith in
-      let slid : take held (paste xs to (drop from xs) count) ≡ slid_down from count to (take held xs)
-      = same_lists _ _ (search (rules, places)) (λ k d h. grind (arith, places)) in
-      ap (λ n. take held (paste xs to (drop from xs) n)) same ∙ slid
+      → take held (slid_down from count to xs) ≡ slid_down from count to (take held xs)
+  slid_within xs held from count to down inside lent = same_lists _ _ (search (rules, places)) (λ k d h. grind (arith, places))
+
+  -- the memory stays as large
+  pub length-slid_down : (xs : List X) (from count to : ℕ) → to ≤ from → from + count ≤ length xs → length (slid_down from count to xs) ≡ length xs
+  length-slid_down xs from count to down inside = grind (arith, places)
+
+  -- where the last elements are moved down, what is behind them no longer counts
+  pub slid_off : (xs : List X) (held position count behind : ℕ) → position + count + behind ≡ held → held ≤ length xs
+      → take (held - count) (slid_down (position + count) behind position xs) ≡ without_run position count (take held xs)
+  slid_off xs held position count behind whole lent = same_lists _ _ (search (rules, places)) (λ k d h. grind (arith, places))
 
   -- a run slid down stands behind what is below it
   pub slid_front : (xs : List X) (from count to : ℕ) → to ≤ from → from + count ≤ length xs

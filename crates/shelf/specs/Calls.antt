@@ -30,6 +30,10 @@ module _ {X : Type 0} where
   abbrev pub slid_down : ℕ → ℕ → ℕ → List X → List X
   slid_down from count to xs = take to xs ++ take count (drop from xs) ++ drop (to + count) xs
 
+  -- a list with others laid over it from a position on
+  abbrev pub laid_at : ℕ → List X → List X → List X
+  laid_at position laid xs = take position xs ++ laid ++ drop (position + length laid) xs
+
   -- the element of a shelf at a position
   pub record ElementAt (s : Shelf X) (position : ℕ) (x : X) : Type 0 where
     pub allowed : position < count_of s

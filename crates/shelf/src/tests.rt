@@ -157,3 +157,30 @@ fn space_left(rt: HostRuntime) {
     assert_eq!(rt; shelf.capacity(), 3);
     assert_eq!(rt; shelf.space_left(), 2);
 }
+
+#[test]
+fn part_and_read_count_from_the_first(rt: HostRuntime) {
+    let mut memory = [0u8; 6];
+    let mut shelf = Shelf::new(&mut memory);
+    assert_eq!(rt; shelf.put_all(&[10, 20, 30, 40, 50]), Ok(5));
+    assert_eq!(rt; shelf.read(0), Ok(10));
+    assert_eq!(rt; shelf.read(3), Ok(40));
+    assert_eq!(rt; shelf.read(4), Ok(50));
+    assert_eq!(rt; shelf.part(0, 2), Ok(&[10, 20][..]));
+    assert_eq!(rt; shelf.part(1, 3), Ok(&[20, 30, 40][..]));
+    assert_eq!(rt; shelf.part(4, 1), Ok(&[50][..]));
+}
+
+// The capacity of a shelf over so many elements of no bytes, which take no memory however many they are.
+fn capacity_over<const N: usize>() -> usize {
+    let mut memory = [(); N];
+    Shelf::new(&mut memory).capacity()
+}
+
+#[test]
+fn no_more_than_1073741824_elements(rt: HostRuntime) {
+    assert_eq!(rt; capacity_over::<1_073_741_823>(), 1_073_741_823);
+    assert_eq!(rt; capacity_over::<1_073_741_824>(), 1_073_741_824);
+    assert_eq!(rt; capacity_over::<1_073_741_825>(), 1_073_741_824);
+    assert_eq!(rt; capacity_over::<4_294_967_296>(), 1_073_741_824);
+}

@@ -1,0 +1,77 @@
+// Where a header says its format.
+ghost use Rattle.std.specs.Prelude.{◌≡◌};
+ghost use Rattle.listing.specs.Sources.{kind_of, source_of};
+
+use dds::Header;
+
+/// What plain pixels hold, as the pixel flags tell it.
+#[derive(Clone, Copy, PartialEq, Eq, Debug)]
+pub enum PixelKind {
+    Rgba,
+    Rgb,
+    LuminanceWithAlpha,
+    Luminance,
+    Yuv,
+    Alpha,
+}
+
+/// Where a header says its format, as users know it.
+#[derive(Clone, Copy, PartialEq, Eq, Debug)]
+pub enum FormatSource {
+    /// The code of a plain header.
+    Code(u32),
+    /// The DXGI code of an extended header.
+    Dxgi(u32),
+    /// The pixel flags, and how many bits a pixel has.
+    BitCount { kind: PixelKind, bits: u32 },
+}
+
+// The pixel flags that tell what plain pixels hold: an alpha channel besides, alpha only, colour, luma and chroma, luminance.
+const ALPHA_BESIDES: u32 = 0x1;
+
+const RGB: u32 = 0x40;
+
+const YUV: u32 = 0x200;
+
+const LUMINANCE: u32 = 0x2_0000;
+
+// What plain pixels hold. Where several flags are set, colour counts before luminance, luminance before luma and chroma, and alpha only where
+// none of them is set.
+fn kind_of(pixel_flags: u32) -> PixelKind
+    ensures { result ≡ kind_of pixel_flags }
+{
+    let alpha_besides = pixel_flags & ALPHA_BESIDES != 0;
+    if pixel_flags & RGB != 0 {
+        if alpha_besides {
+            PixelKind::Rgba
+        } else {
+            PixelKind::Rgb
+        }
+    } else if pixel_flags & LUMINANCE != 0 {
+        if alpha_besides {
+            PixelKind::LuminanceWithAlpha
+        } else {
+            PixelKind::Luminance
+        }
+    } else if pixel_flags & YUV != 0 {
+        PixelKind::Yuv
+    } else {
+        PixelKind::Alpha
+    }
+}
+
+// Where a header says its format.
+pub(crate) fn source_of(header: &Header) -> FormatSource
+    ensures { result ≡ source_of header.now }
+{
+    if header.is_extended() {
+        FormatSource::Dxgi(header.dxgi_code)
+    } else if header.pixel_flags & 0x4 != 0 {
+        FormatSource::Code(header.code)
+    } else {
+        FormatSource::BitCount {
+            kind: kind_of(header.pixel_flags),
+            bits: header.bit_count,
+        }
+    }
+}
