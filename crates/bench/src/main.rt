@@ -8,8 +8,7 @@ mod script;
 mod work;
 
 use crate::script::Plan;
-use crate::work::{ask_often, make_calls, open_array, open_handful};
-use loans::RunFault;
+use crate::work::{Fault, ask_often, make_calls, open_array, open_handful};
 use std::alloc::Global;
 use std::process::ExitCode;
 use std::{env, io};
@@ -82,7 +81,7 @@ impl Workload {
         }
     }
 
-    fn run(self, heap: Global) -> Result<u64, RunFault> {
+    fn run(self, heap: Global) -> Result<u64, Fault> {
         match self {
             Workload::Open { rounds } => open_handful(heap, rounds),
             Workload::Array {

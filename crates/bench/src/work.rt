@@ -8,9 +8,21 @@ use loans::{Answer, Call, Docket, Job, Mark, Report, RunFault, Shelves, run, scr
 use refusal::Refusal;
 use shelf::Shelf;
 use std::alloc::{AllocError, Global};
+use thiserror::Error;
 
 // The most kept bytes that the shelves hold.
 const MOST_KEPT: usize = 67_108_864;
+
+// Why a workload was not done.
+#[derive(Debug, Drop, Error)]
+pub(crate) enum Fault {
+    #[error("{0}")]
+    NoMemory(#[from] AllocError),
+    #[error("{0}")]
+    Refused(#[from] Refusal),
+    #[error("{0}")]
+    NotRun(#[from] RunFault),
+}
 
 fn open_all(samples: &[Sample], sum: &mut Sum) {
     for sample in samples {
@@ -32,7 +44,7 @@ fn open_often(samples: &[Sample], rounds: u32) -> u64 {
     sum.value()
 }
 
-pub(crate) fn open_handful(heap: Global, rounds: u32) -> Result<u64, RunFault> {
+pub(crate) fn open_handful(heap: Global, rounds: u32) -> Result<u64, Fault> {
     let samples = handful(heap)?;
     Ok(open_often(&samples, rounds))
 }
@@ -43,7 +55,7 @@ pub(crate) fn open_array(
     elements: u32,
     levels: u32,
     rounds: u32,
-) -> Result<u64, RunFault> {
+) -> Result<u64, Fault> {
     let samples = [
         array(heap, elements, levels, 0)?,
         array(heap, elements, levels, 1)?,
@@ -87,7 +99,7 @@ pub(crate) fn ask_often(
     levels: u32,
     count: u32,
     rounds: u32,
-) -> Result<u64, RunFault> {
+) -> Result<u64, Fault> {
     let sample = array(heap, elements, levels, 0)?;
     let layout = Layout::read(sample.head(), &BuiltInCodes)?;
     let places = places_in(heap, layout.length(), count)?;
@@ -148,11 +160,12 @@ impl Desk {
     }
 
     // One run on empty shelves. Only the last round is summed up.
-    fn make(&mut self, heap: Global, calls: &[Call<'_>], last: bool) -> Result<Sum, RunFault> {
+    fn make(&mut self, heap: Global, calls: &[Call<'_>], last: bool) -> Result<Sum, Fault> {
         let family = Linear::new(8).ok_or(Refusal::UnknownFormat)?;
         let mut shelves = Shelves::of(Shelf::new(&mut self.marks), Shelf::new(&mut self.bytes));
         let mut job = Job::empty();
         let mut answers = Vec::new(heap);
+        answers.reserve(calls.len())?;
         let docket = run(
             &mut job,
             &mut self.file,
@@ -183,7 +196,7 @@ fn ink_of(random: &mut Random) -> [u8; 8192] {
     ink
 }
 
-pub(crate) fn make_calls(heap: Global, plan: Plan, rounds: u32) -> Result<u64, RunFault> {
+pub(crate) fn make_calls(heap: Global, plan: Plan, rounds: u32) -> Result<u64, Fault> {
     let mut random = Random::new();
     let mut desk = Desk::new(heap, plan, &mut random)?;
     let ink = ink_of(&mut random);

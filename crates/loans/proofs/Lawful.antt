@@ -5,7 +5,7 @@ use Rattle.dds.specs.declared.layout.Layout.{Layout}
 use Rattle.dds.specs.declared.piece.Piece.{Piece}
 use Rattle.dds.specs.declared.table.Table.{Table}
 use Rattle.dds.specs.Pieces.{Placed, Exists}
-use Rattle.dds.specs.Places.{exists_in, area_in}
+use Rattle.dds.specs.Places.{exists_in, area_in, AreaOf}
 use Rattle.dds.specs.Sound.{plan_in}
 use Rattle.dds.proofs.Placing.{tiled, entry_stands}
 
@@ -35,3 +35,8 @@ lawful y =
           ap (λ (x : Placed). x.piece)
           ((tiled y).disjoint _ _ place (stands p (exists_parts y.table p e)) (stands q (exists_parts y.table q f)) v w);
     }
+
+-- the area of a piece by the table's numbers is that of the piece in the list
+pub listed_area : (y : Layout) (p : Piece) → exists_in y.table p ≡ true → AreaOf y p (area_in y.table p)
+listed_area y p e =
+    record { stands = entry_stands y.table y.chained y.ended p (exists_parts y.table p e); row_bytes = refl; rows = refl; length = refl }

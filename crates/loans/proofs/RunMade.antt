@@ -1,5 +1,5 @@
 -- What a run leaves, and that the law holds of it.
-use Rattle.std.proofs.Common.{◌≡◌, ℕ, Bool, true, eqb, List, [], ◌++◌, length, take, Some, Ok, Result, sym, refl, ap, ◌∙◌, subst, ap₂}
+use Rattle.std.proofs.Common.{◌≡◌, ℕ, ◌+◌, ◌≤◌, Bool, true, eqb, List, [], ◌++◌, length, take, Some, Ok, Result, sym, refl, ap, ◌∙◌, subst, ap₂}
 use Rattle.std.proofs.lemmas.List.{nil_from_length}
 use Rattle.std.proofs.lemmas.Bool.{and_parts, eqb-true}
 use Rattle.refusal.specs.declared.Refusal.{Refusal}
@@ -49,19 +49,20 @@ module _ (o : Ordered) (t : Job) (x : OpenedJob o t) where
       subst (λ (s : State). are_ours (after_all s (take i o.calls)).book (after_all s (take i o.calls)).stock ≡ true) (sym first_is)
       (ours_run t.layout o.number o.file k (take i o.calls) sized marks bytes).0
 
-  pub run_made : (d : Docket) → d.number ≡ o.number → (u : State) (old new : List (Result ℕ Refusal)) → old ≡ o.old
+  pub run_made : (d : Docket) → d.0 ≡ o.number → length o.old + length o.calls ≤ o.room → (u : State) (old new : List (Result ℕ Refusal)) → old ≡ o.old
       → AllDone o.calls (state_of t o.file o.shelves) old u new → RanSo o d u new
-  run_made d docket u old new same done =
+  run_made d docket room u old new same done =
       let is : u ≡ after_all first o.calls = done.state ∙ ap (λ (s : State). after_all s o.calls) first_is in
       record {
         layout = t.layout;
         opened = x.opened;
         docket = docket;
+        room = room;
         given = answers_to first o.calls;
         answers = done.answers ∙ ap₂ (λ (xs : List (Result ℕ Refusal)) (s : State). xs ++ answers_to s o.calls) same first_is;
         each = answers_to_length first o.calls;
         by_rules = refl;
         state = is;
-        law = λ marks bytes. subst (Law t.layout.table o.number (stock_of o.shelves).most_marks (stock_of o.shelves).most_bytes o.file (history_of o.calls (answers_to first o.calls))) (sym is)
+        law = λ marks bytes. subst (Law t.layout o.number (stock_of o.shelves).most_marks (stock_of o.shelves).most_bytes o.file (history_of o.calls (answers_to first o.calls))) (sym is)
             (law_run t.layout o.number o.file (stock_of o.shelves) o.calls sized marks bytes);
       }

@@ -1,26 +1,32 @@
 -- The law over every list of calls, and that the job's own file and shelves are never taken for others.
 use Rattle.std.proofs.Common.{◌≡◌, ℕ, ◌≤◌, true, List, [], ◌∷◌, length, Some, None, Option, sym, refl, ap, ◌∙◌, subst}
 use Rattle.std.specs.List.{AllByRecursion}
+use Rattle.std.proofs.ByRecursion.{All-weaker}
 use Rattle.std.proofs.lemmas.List.FromFn.{fill_by_all}
 use Rattle.std.proofs.lemmas.List.{length-map}
 use Rattle.refusal.specs.declared.Refusal.{Refusal}
 use Rattle.dds.specs.declared.layout.Layout.{Layout}
 use Rattle.dds.specs.declared.table.Table.{Table}
+use Rattle.dds.specs.Places.{AreaOf}
+use Rattle.loans.specs.declared.ledger.Loan.{Loan}
 use Rattle.loans.specs.Jobs.{fresh_book}
 use Rattle.loans.specs.Stocks.{Stock, are_ours}
 use Rattle.loans.specs.Strokes.{State}
 use Rattle.loans.specs.Rules.{Deed, call_refusal, carried_out, number_for, refusal_or, left, answer_to, after, answers_to, after_all}
 use Rattle.loans.specs.Rules.Deed.{lend, paint, undo, keep, cancel}
 use Rattle.loans.specs.History.{Event, written_down, history_of, lent, out_in, keeps_in, cancels_in, standing, ever_laid, byte_under, undoable, mark_of, told}
-use Rattle.loans.specs.Law.{Answered, TakenAsOwn, Law}
+use Rattle.loans.specs.Law.{Answered, TakenAsOwn, OfPiece, OfListed, Law}
 use Rattle.loans.specs.Runs.{opened_state}
-use Rattle.loans.proofs.Lawful.{Lawful, lawful}
+use Rattle.loans.proofs.Lawful.{Lawful, lawful, listed_area}
 use Rattle.loans.proofs.Good.{good_none, outs_apart}
 use Rattle.loans.proofs.Ours.{told_ours, told_same, told_length}
 use Rattle.loans.proofs.Homely.{homely, homely_answer}
 use Rattle.loans.proofs.Steps.{Fine, Next, step_lend, step_paint, step_undo, step_keep, step_cancel}
 
-module _ (t : Table) (number mm mb : ℕ) (opening : List ℕ) (lawful : Lawful t (length opening)) (same : length opening ≡ t.length) where
+module _ (y : Layout) (number mm mb : ℕ) (opening : List ℕ) (lawful : Lawful y.table (length opening)) (same : length opening ≡ y.table.length) where
+  abbrev t : Table
+  t = y.table
+
   abbrev FineIn : List Event → Type 0
   FineIn h = Fine t mm mb opening (lent t h) (out_in t h) (keeps_in h) (cancels_in h) (standing t opening h) (ever_laid t opening h)
 
@@ -77,7 +83,10 @@ module _ (t : Table) (number mm mb : ℕ) (opening : List ℕ) (lawful : Lawful 
   all_stand_lem [] s h w = w
   all_stand_lem (d ∷ ds) s h w = all_stand_lem ds (after s d) (record { call = d; answer = answer_to s d } ∷ h) (one_more s h w d)
 
-  stands_law : (s : State) (h : List Event) → Stands s h → Law t number mm mb opening h s
+  listed : (l : Loan) → OfPiece t l → OfListed y l
+  listed l p = subst (AreaOf y l.piece) (sym p.1) (listed_area y l.piece p.0)
+
+  stands_law : (s : State) (h : List Event) → Stands s h → Law y number mm mb opening h s
   stands_law s h w =
       let e = w.state in
       let f = w.fine in
@@ -88,6 +97,7 @@ module _ (t : Table) (number mm mb : ℕ) (opening : List ℕ) (lawful : Lawful 
         own = w.own;
         numbers = f.good.numbers;
         pieces = f.good.pieces;
+        areas = All-weaker (OfPiece t) (OfListed y) listed (lent t h) f.good.pieces;
         apart = outs_apart t mm mb opening (lent t h) (out_in t h) (standing t opening h) f.good lawful;
         rows = f.rows;
         balance = f.balance;
@@ -114,13 +124,18 @@ module _ (t : Table) (number mm mb : ℕ) (opening : List ℕ) (lawful : Lawful 
 
 -- the law over every list of calls on a job just opened
 pub law_run : (y : Layout) (number : ℕ) (file : List ℕ) (k : Stock) (ds : List Deed) → length file ≡ y.table.length → k.marks ≡ [] → k.bytes ≡ []
-    → Law y.table number k.most_marks k.most_bytes file (history_of ds (answers_to (opened_state y.table number file k) ds))
+    → Law y number k.most_marks k.most_bytes file (history_of ds (answers_to (opened_state y.table number file k) ds))
     (after_all (opened_state y.table number file k) ds)
 law_run y number file k ds e a b =
     let l : Lawful y.table (length file) = subst (Lawful y.table) (sym e) (lawful y) in
-    stands_law y.table number k.most_marks k.most_bytes file l e _ _
-    (all_stand_lem y.table number k.most_marks k.most_bytes file l e ds (opened_state y.table number file k) []
-    (opened y.table number k.most_marks k.most_bytes file l e k a b refl refl))
+    stands_law y number k.most_marks k.most_bytes file l e _ _
+    (all_stand_lem y number k.most_marks k.most_bytes file l e ds (opened_state y.table number file k) []
+    (opened y number k.most_marks k.most_bytes file l e k a b refl refl))
+
+-- the law gives job, file and shelves back as the history tells them
+pub told_again : (y : Layout) (number mm mb : ℕ) (opening : List ℕ) (h : List Event) (s : State) → Law y number mm mb opening h s
+    → s ≡ told y.table number mm mb opening h
+told_again y number mm mb opening h s law = law.state
 
 -- after every list of calls the shelves are the job's, and the file has the job's length
 pub ours_run : (y : Layout) (number : ℕ) (file : List ℕ) (k : Stock) (ds : List Deed) → length file ≡ y.table.length → k.marks ≡ [] → k.bytes ≡ []
@@ -128,6 +143,6 @@ pub ours_run : (y : Layout) (number : ℕ) (file : List ℕ) (k : Stock) (ds : L
     (are_ours s.book s.stock ≡ true) × (length s.file ≡ y.table.length))
 ours_run y number file k ds e a b =
     let l : Lawful y.table (length file) = subst (Lawful y.table) (sym e) (lawful y) in
-    stands_ours y.table number k.most_marks k.most_bytes file l e _ _
-    (all_stand_lem y.table number k.most_marks k.most_bytes file l e ds (opened_state y.table number file k) []
-    (opened y.table number k.most_marks k.most_bytes file l e k a b refl refl))
+    stands_ours y number k.most_marks k.most_bytes file l e _ _
+    (all_stand_lem y number k.most_marks k.most_bytes file l e ds (opened_state y.table number file k) []
+    (opened y number k.most_marks k.most_bytes file l e k a b refl refl))

@@ -1,5 +1,5 @@
 -- What a job means: its layout's table, its number, its loans out, and its counts.
-use Rattle.std.specs.Prelude.{ℕ, List, [], length, None, Option}
+use Rattle.std.specs.Prelude.{◌≡◌, ℕ, ◌+◌, List, [], length, None, Option}
 use Rattle.dds.specs.declared.table.Table.{Table}
 use Rattle.dds.specs.Sound.{empty_table}
 use Rattle.loans.specs.declared.job.Job.{Job}
@@ -44,3 +44,7 @@ empty_book = fresh_book empty_table None
 -- how many loans were granted, kept and cancelled, and how many are out
 abbrev pub report_of : Book → Report
 report_of b = record { granted = b.granted; kept = b.kept; cancelled = b.cancelled; out = length b.outs }
+
+-- granted is kept, cancelled and out together
+abbrev pub IsBalanced : Report → Type 0
+IsBalanced r = r.granted ≡ r.kept + r.cancelled + r.out

@@ -2,8 +2,9 @@
 use Rattle.std.specs.Prelude.{◌≡◌, ℕ, ◌+◌, ◌<◌, ◌≤◌, true, List, [], ◌∷◌, length, Err, ◌≢◌}
 use Rattle.std.specs.List.{AllByRecursion, Contains}
 use Rattle.refusal.specs.declared.Refusal.TheVariants.{OtherLength, ForeignShelves}
+use Rattle.dds.specs.declared.layout.Layout.{Layout}
 use Rattle.dds.specs.declared.table.Table.{Table}
-use Rattle.dds.specs.Places.{exists_in, area_in}
+use Rattle.dds.specs.Places.{exists_in, area_in, AreaOf}
 use Rattle.loans.specs.declared.ledger.Loan.{Loan}
 use Rattle.loans.specs.Stocks.{is_out, the_loan}
 use Rattle.loans.specs.Strokes.{State, stroke_place}
@@ -48,17 +49,22 @@ pub record InRow (ls : List Loan) (s : Stroke) : Type 0 where
   pub end : s.painting.first + stroke_length s ≤ (the_loan ls s.painting.loan).area.row_bytes
   pub place : s.place ≡ stroke_place (the_loan ls s.painting.loan).area s.painting
 
+-- the loan's area is that of its piece in the list of the layout's pieces
+abbrev pub OfListed : Layout → Loan → Type 0
+OfListed y l = AreaOf y l.piece l.area
+
 -- what holds of job, file and shelves after a history
-pub record Law (t : Table) (number most_marks most_bytes : ℕ) (opening : List ℕ) (h : List Event) (s : State) : Type 0 where
+pub record Law (y : Layout) (number most_marks most_bytes : ℕ) (opening : List ℕ) (h : List Event) (s : State) : Type 0 where
   -- job, file and shelves are what the history tells, and no more
-  pub state : s ≡ told t number most_marks most_bytes opening h
+  pub state : s ≡ told y.table number most_marks most_bytes opening h
   pub same_length : length s.file ≡ length opening
-  pub answers : Answered t number most_marks most_bytes opening h
+  pub answers : Answered y.table number most_marks most_bytes opening h
   pub own : AllByRecursion TakenAsOwn h
-  pub numbers : NumberedFromOne (lent t h)
-  pub pieces : AllByRecursion (OfPiece t) (lent t h)
-  pub apart : Apart (out_in t h)
-  pub rows : AllByRecursion (InRow (lent t h)) (ever_laid t opening h)
-  pub balance : length (lent t h) ≡ keeps_in h + cancels_in h + length (out_in t h)
+  pub numbers : NumberedFromOne (lent y.table h)
+  pub pieces : AllByRecursion (OfPiece y.table) (lent y.table h)
+  pub areas : AllByRecursion (OfListed y) (lent y.table h)
+  pub apart : Apart (out_in y.table h)
+  pub rows : AllByRecursion (InRow (lent y.table h)) (ever_laid y.table opening h)
+  pub balance : length (lent y.table h) ≡ keeps_in h + cancels_in h + length (out_in y.table h)
   pub marks_fit : length s.stock.marks ≤ most_marks
   pub bytes_fit : length s.stock.bytes ≤ most_bytes

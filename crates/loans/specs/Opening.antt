@@ -12,7 +12,7 @@ use Rattle.loans.specs.Jobs.{book_of, fresh_book}
 -- the number; a refused open leaves the place as it was
 abbrev pub JobOpened : (Result Layout Refusal → Type 0) → ℕ → Job → Result Docket Refusal → Job → Type 0
 JobOpened reads number s (Ok d) t =
-    (d.number ≡ number) × reads (Ok t.layout) × (book_of t ≡ fresh_book t.layout.table (Some number))
+    (d.0 ≡ number) × reads (Ok t.layout) × (book_of t ≡ fresh_book t.layout.table (Some number))
 JobOpened reads number s (Err e) t = reads (Err e) × (t ≡ s)
 
 -- with a family that is handed in

@@ -1,5 +1,5 @@
 -- What a run of calls answers and leaves, and the law over it.
-use Rattle.std.specs.Prelude.{◌≡◌, ℕ, ◌+◌, ◌<◌, Bool, true, ◌&&◌, List, [], ◌++◌, length, take, Some, Ok, Err, Result, ◌==◌, codes}
+use Rattle.std.specs.Prelude.{◌≡◌, ℕ, ◌+◌, ◌<◌, ◌≤◌, Bool, true, ◌&&◌, List, [], ◌++◌, length, take, Some, Ok, Err, Result, ◌==◌, codes}
 use Rattle.refusal.specs.declared.Refusal.{Refusal}
 use Rattle.refusal.specs.Meanings.{refusal_text}
 use Rattle.dds.specs.declared.layout.Layout.{Layout}
@@ -9,7 +9,7 @@ use Rattle.loans.specs.declared.docket.Docket.{Docket}
 use Rattle.loans.specs.declared.job.Job.{Job}
 use Rattle.loans.specs.declared.mark.Shelves.{Shelves}
 use Rattle.loans.specs.declared.running.RunFault.{RunFault}
-use Rattle.loans.specs.declared.running.RunFault.TheVariants.{Refused, NoMemory}
+use Rattle.loans.specs.declared.running.RunFault.TheVariants.{Refused, NoRoom}
 use Rattle.loans.specs.Jobs.{fresh_book}
 use Rattle.loans.specs.Stocks.{Stock, stock_of, are_ours}
 use Rattle.loans.specs.Strokes.{State, state_of}
@@ -36,7 +36,7 @@ pub record AllDone (ds : List Deed) (s : State) (old : List (Result ℕ Refusal)
   pub state : t ≡ after_all s ds
 
 -- what a run is made on: the file with the length and the two functions of the family by which it is opened, the number, the shelves,
--- the calls, and the answers that stand in the Vec already
+-- the calls, the answers that stand in the Vec already, and how many the Vec can hold
 pub record Ordered : Type 0 where
   pub file : List ℕ
   pub number : ℕ
@@ -45,6 +45,7 @@ pub record Ordered : Type 0 where
   pub shelves : Shelves
   pub calls : List Deed
   pub old : List (Result ℕ Refusal)
+  pub room : ℕ
 
 -- what opening the file answers
 abbrev pub FileOpened : Ordered → Result Layout Refusal → Type 0
@@ -55,28 +56,29 @@ FileOpened o r = Opened (take 148 o.file) (length o.file) o.row_bytes o.rows r
 pub record RanSo (o : Ordered) (d : Docket) (t : State) (all : List (Result ℕ Refusal)) : Type 0 where
   pub layout : Layout
   pub opened : FileOpened o (Ok layout)
-  pub docket : d.number ≡ o.number
+  pub docket : d.0 ≡ o.number
+  pub room : length o.old + length o.calls ≤ o.room
   pub given : List (Result ℕ Refusal)
   pub answers : all ≡ o.old ++ given
   pub each : length given ≡ length o.calls
   pub by_rules : given ≡ answers_to (opened_state layout.table o.number o.file (stock_of o.shelves)) o.calls
   pub state : t ≡ after_all (opened_state layout.table o.number o.file (stock_of o.shelves)) o.calls
   pub law : (stock_of o.shelves).marks ≡ [] → (stock_of o.shelves).bytes ≡ []
-      → Law layout.table o.number (stock_of o.shelves).most_marks (stock_of o.shelves).most_bytes o.file (history_of o.calls given) t
+      → Law layout o.number (stock_of o.shelves).most_marks (stock_of o.shelves).most_bytes o.file (history_of o.calls given) t
 
 -- a fault as text
 abbrev pub fault_text : RunFault → List ℕ
 fault_text (Refused e) = refusal_text e
-fault_text NoMemory = codes "no memory for the answers"
+fault_text NoRoom = codes "no room for the answers"
 
 -- job, file, shelves and answers are what they were
 abbrev pub Untouched : Ordered → Job → Job → List ℕ → Shelves → List (Result ℕ Refusal) → Type 0
 Untouched o j j' f' v' new = (j' ≡ j) × (f' ≡ o.file) × (v' ≡ o.shelves) × (new ≡ o.old)
 
--- a run that was made; or nothing changed, where the file is refused, whatever memory there is, or where memory is wanting, which comes
--- only where the Vec's capacity was too small for what stands in it and the answers
-abbrev pub Ran : Ordered → ℕ → ℕ → Job → Result Docket RunFault → Job → List ℕ → Shelves → List (Result ℕ Refusal) → Type 0
-Ran o len room j (Ok d) j' f' v' new = RanSo o d (state_of j' f' v') new
-Ran o len room j (Err (Refused e)) j' f' v' new = FileOpened o (Err e) × Untouched o j j' f' v' new
-Ran o len room j (Err NoMemory) j' f' v' new =
-    ((y : Layout) × FileOpened o (Ok y)) × (room < len + length o.calls) × Untouched o j j' f' v' new
+-- a run that was made; or nothing changed, where the file is refused, whatever room there is, or where the file opens and the Vec cannot
+-- hold one answer a call behind what stands in it
+abbrev pub Ran : Ordered → Job → Result Docket RunFault → Job → List ℕ → Shelves → List (Result ℕ Refusal) → Type 0
+Ran o j (Ok d) j' f' v' new = RanSo o d (state_of j' f' v') new
+Ran o j (Err (Refused e)) j' f' v' new = FileOpened o (Err e) × Untouched o j j' f' v' new
+Ran o j (Err NoRoom) j' f' v' new =
+    ((y : Layout) × FileOpened o (Ok y)) × (o.room < length o.old + length o.calls) × Untouched o j j' f' v' new

@@ -17,7 +17,7 @@ pub record AtHome (s : State) : Type 0 where
 
 -- every loan out is cancelled: the report, file and shelves are those after the cancels, and the job is emptied
 pub record ScrappedSo (d : Docket) (s : State) (report : Report) (t : State) : Type 0 where
-  pub none : scrap_refusal s d.number ≡ None
+  pub none : scrap_refusal s d.0 ≡ None
   pub answer : report ≡ report_of (all_cancelled s.book.outs s).book
   pub job : t.book ≡ empty_book
   pub file : t.file ≡ (all_cancelled s.book.outs s).file
@@ -26,4 +26,4 @@ pub record ScrappedSo (d : Docket) (s : State) (report : Report) (t : State) : T
 -- a refusal takes only the docket
 abbrev pub Scrapped : Docket → Job → List ℕ → Shelves → Result Report Refusal → Job → List ℕ → Shelves → Type 0
 Scrapped d j f v (Ok report) j' f' v' = ScrappedSo d (state_of j f v) report (state_of j' f' v')
-Scrapped d j f v (Err e) j' f' v' = (scrap_refusal (state_of j f v) d.number ≡ Some e) × (j' ≡ j) × (f' ≡ f) × (v' ≡ v)
+Scrapped d j f v (Err e) j' f' v' = (scrap_refusal (state_of j f v) d.0 ≡ Some e) × (j' ≡ j) × (f' ≡ f) × (v' ≡ v)

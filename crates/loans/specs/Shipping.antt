@@ -22,6 +22,6 @@ ship_refusal b n =
 -- the job is emptied and its report answered; a refusal hands the docket back
 abbrev pub Shipped : Docket → Job → Result Report Unspent → Job → Type 0
 Shipped d s (Ok report) t =
-    (ship_refusal (book_of s) d.number ≡ None) × (report ≡ report_of (book_of s)) × (book_of t ≡ empty_book)
+    (ship_refusal (book_of s) d.0 ≡ None) × (report ≡ report_of (book_of s)) × (book_of t ≡ empty_book)
 Shipped d s (Err u) t =
-    (ship_refusal (book_of s) d.number ≡ Some u.refusal) × (u.docket.number ≡ d.number) × (t ≡ s)
+    (ship_refusal (book_of s) d.0 ≡ Some u.refusal) × (u.docket.0 ≡ d.0) × (t ≡ s)

@@ -1,52 +1,44 @@
 // The docket: what stands for an open job.
-ghost use Rattle.std.specs.Prelude.{◌≡◌, true, false};
+ghost use Rattle.std.specs.Prelude.{◌≡◌, ◌^◌};
 
-// A token with a job's number. Whoever opens a job must spend it by ship or scrap: a program that lets one go is not proved, since no
-// docket that is handed out is spent.
+use std::mem;
+
+// A number that no job has: jobs have numbers of 32 bits.
+const SPENT: u64 = 1 << 32;
+
+/// A token with a job's number. Whoever opens a job must hand it to ship or scrap: a program that lets one go otherwise is refused.
 #[derive(PartialEq, Eq, Debug)]
-pub struct Docket {
-    number: u32,
-    // a flag: a drop that no call can meet would be refused itself, so that no fact could refuse a program that lets a docket go; and no
-    // Option of the number, which is told without fail
-    spent: bool,
-}
+pub struct Docket(u64);
 
 impl Drop for Docket {
-    // Only where it is spent.
+    // Only one with a number that no job has, which no caller ever gets.
     fn drop(self)
-        requires { self.spent ≡ true }
+        requires { self.0 ≡ 2 ^ 32 }
     {
-        let Docket {
-            number: _,
-            spent: _,
-        } = self;
+        let Docket(_) = self;
     }
 }
 
 impl Docket {
-    // A docket of a number, not spent.
+    // A docket of a job's number.
     pub(crate) fn of(number: u32) -> Docket
-        ensures number { result.number ≡ number }
-        ensures unspent { result.spent ≡ false }
+        ensures { result.0 ≡ number }
     {
-        Docket {
-            number,
-            spent: false,
-        }
+        Docket(u64::from(number))
     }
 
-    // The number of the job that it stands for.
-    pub fn number(&self) -> u32
-        ensures { result ≡ self.now.number }
+    /// The number of the job that it stands for, which is below 2^32.
+    pub fn number(&self) -> u64
+        ensures { result ≡ self.now.0 }
     {
-        self.number
+        self.0
     }
 
-    // The only way to let one go.
-    pub(crate) fn spend(mut self) -> u32
-        ensures { result ≡ self.number }
+    // Takes the job's number out: the only way to let a docket go.
+    pub(crate) fn spend(&mut self) -> u64
+        ensures number { result ≡ self.old.0 }
+        ensures spent { self.new.0 ≡ 2 ^ 32 }
     {
-        self.spent = true;
-        self.number()
+        mem::replace(&mut self.0, SPENT)
     }
 }

@@ -1,7 +1,7 @@
 // Opening a job, and asking where its pieces stand.
-ghost use Rattle.std.specs.Prelude.{◌≡◌, false, IfOk, Option};
+ghost use Rattle.std.specs.Prelude.{◌≡◌, Option};
 ghost use Rattle.dds.specs.Places.{WhereIs, where_in, WhoseIs, Shown};
-ghost use Rattle.loans.specs.Jobs.{book_of, fresh_book, empty_book, report_of};
+ghost use Rattle.loans.specs.Jobs.{book_of, fresh_book, empty_book, report_of, IsBalanced};
 ghost use Rattle.loans.specs.Opening.{OpenedWith, OpenedWithCodes};
 
 use crate::docket::Docket;
@@ -47,8 +47,8 @@ impl Job {
         number: u32,
         family: &F,
     ) -> Result<Docket, Refusal>
-        ensures opened { OpenedWith file.now number (F.row_bytes family.now) (F.rows family.now) self.old result self.new }
-        ensures unspent { IfOk result (λ docket. docket.spent ≡ false) }
+        ensures { OpenedWith file.now number (F.row_bytes family.now) (F.rows family.now)
+            self.old result self.new }
     {
         let layout = Layout::read_with(FileHead::of(file), family)?;
         *self = Job::fresh(layout, Some(number));
@@ -63,8 +63,7 @@ impl Job {
         number: u32,
         codes: &T,
     ) -> Result<Docket, Refusal>
-        ensures opened { OpenedWithCodes file.now number (T.name_at codes.now) self.old result self.new }
-        ensures unspent { IfOk result (λ docket. docket.spent ≡ false) }
+        ensures { OpenedWithCodes file.now number (T.name_at codes.now) self.old result self.new }
     {
         let layout = Layout::read(FileHead::of(file), codes)?;
         *self = Job::fresh(layout, Some(number));
@@ -95,7 +94,8 @@ impl Job {
 
     // The job's counts.
     pub fn report(&self) -> Report
-        ensures { result ≡ report_of (book_of self.now) }
+        ensures value { result ≡ report_of (book_of self.now) }
+        ensures balance { IsBalanced result }
     {
         let ledger = &self.ledger;
         Report {

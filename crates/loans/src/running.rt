@@ -1,6 +1,6 @@
 // Running a list of calls on a newly opened job.
-ghost use Rattle.std.specs.Prelude.{◌≡◌, false, IfOk, Some, ◌+◌, ◌≤◌, map, length, vec_len, vec_capacity};
-ghost use Rattle.loans.specs.declared.running.RunFault.TheVariants.{Refused, NoMemory};
+ghost use Rattle.std.specs.Prelude.{◌≡◌, Some, ◌+◌, ◌≤◌, map, length, vec_len, vec_capacity};
+ghost use Rattle.loans.specs.declared.running.RunFault.TheVariants.{Refused};
 ghost use Rattle.loans.specs.Jobs.{book_of};
 ghost use Rattle.loans.specs.Stocks.{stock_of, OursWhere};
 ghost use Rattle.loans.specs.Strokes.{state_of};
@@ -16,15 +16,16 @@ use crate::mark::Shelves;
 use dds::{FileHead, Layout};
 use formats::Family;
 use refusal::Refusal;
-use std::alloc::AllocError;
 use std::error::Error;
 use std::fmt;
 
-// Why a run was not made: the file was not opened, or there was no memory for the answers.
+/// Why a run was not made.
 #[derive(Clone, Copy, PartialEq, Eq, Debug)]
 pub enum RunFault {
+    /// the file was not opened
     Refused(Refusal),
-    NoMemory,
+    /// the Vec has too little room for one answer a call
+    NoRoom,
 }
 
 impl fmt::Display for RunFault {
@@ -33,7 +34,7 @@ impl fmt::Display for RunFault {
     fn fmt<W: fmt::Write>(&self, f: &mut fmt::Formatter<W>) -> fmt::Result {
         match self {
             RunFault::Refused(refusal) => write!(f, "{refusal}"),
-            RunFault::NoMemory => write!(f, "no memory for the answers"),
+            RunFault::NoRoom => write!(f, "no room for the answers"),
         }
     }
 }
@@ -45,14 +46,6 @@ impl From<Refusal> for RunFault {
 
     fn from(refusal: Refusal) -> RunFault {
         Self::Refused(refusal)
-    }
-}
-
-impl From<AllocError> for RunFault {
-    ghost from_gives = { λ _ fault. fault ≡ NoMemory };
-
-    fn from(_failed: AllocError) -> RunFault {
-        Self::NoMemory
     }
 }
 
@@ -119,9 +112,9 @@ impl Shelves<'_> {
     }
 }
 
-// Opens a job on a file with a family that is handed in, makes the calls in order on it and the shelves, puts an answer for each
-// behind those in the Vec, and gives the docket. Refuses as Layout::read_with does; then with NoMemory, where there is no memory for the
-// answers. Either way nothing changes.
+/// Opens a job on a file with a family that is handed in, makes the calls in order on it and the shelves, puts an answer for each
+/// behind those in the Vec, and gives the docket. It takes no memory: the Vec has to have room for one answer a call. Refuses as
+/// Layout::read_with does, whatever room there is; then with NoRoom. Either way nothing changes.
 // Shelves that are empty at first are the job's all along, so that no call has to look through them.
 pub fn run<F: Family>(
     job: &mut Job,
@@ -132,11 +125,21 @@ pub fn run<F: Family>(
     calls: &[Call<'_>],
     answers: &mut Vec<Answer>,
 ) -> Result<Docket, RunFault>
-    ensures ran { Ran (record { file = file.old; number = number; row_bytes = F.row_bytes family.now; rows = F.rows family.now; shelves = shelves.old; calls = map deed_of calls.now; old = answers.old.items }) (vec_len answers.old) (vec_capacity answers.old) job.old result job.new file.new shelves.new answers.new.items }
-    ensures unspent { IfOk result (λ docket. docket.spent ≡ false) }
+    ensures { Ran (record {
+      file = file.old;
+      number = number;
+      row_bytes = F.row_bytes family.now;
+      rows = F.rows family.now;
+      shelves = shelves.old;
+      calls = map deed_of calls.now;
+      old = answers.old.items;
+      room = vec_capacity answers.old;
+    }) job.old result job.new file.new shelves.new answers.new.items }
 {
     let layout = Layout::read_with(FileHead::of(file), family)?;
-    answers.reserve(calls.len())?;
+    if answers.capacity() - answers.len() < calls.len() {
+        return Err(RunFault::NoRoom);
+    }
     let mut opened = Job::fresh(layout, Some(number));
     opened.call_all(file, shelves, calls, shelves.are_empty(), answers);
     *job = opened;

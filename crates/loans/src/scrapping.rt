@@ -1,6 +1,6 @@
 // Scrapping a job.
-ghost use Rattle.std.specs.Prelude.{◌≡◌};
-ghost use Rattle.loans.specs.Jobs.{book_of};
+ghost use Rattle.std.specs.Prelude.{◌≡◌, IfOk};
+ghost use Rattle.loans.specs.Jobs.{book_of, IsBalanced};
 ghost use Rattle.loans.specs.Strokes.{state_of};
 ghost use Rattle.loans.specs.Ending.{all_cancelled};
 ghost use Rattle.loans.specs.Scrapping.{AtHome, Scrapped};
@@ -25,17 +25,18 @@ impl Job {
     }
 }
 
-// Ends a job whatever is out: cancels every loan out, empties the job, and answers the report after those cancels. Refuses with
-// OtherDocket, OtherLength or ForeignShelves, in this order; the docket is spent even then.
+/// Ends a job whatever is out: cancels every loan out, empties the job, and answers the report after those cancels. Refuses with
+/// OtherDocket, OtherLength or ForeignShelves, in this order; the docket is spent even then.
 pub fn scrap(
-    docket: Docket,
+    mut docket: Docket,
     job: &mut Job,
     file: &mut [u8],
     shelves: &mut Shelves<'_>,
 ) -> Result<Report, Refusal>
-    ensures { Scrapped docket job.old file.old shelves.old result job.new file.new shelves.new }
+    ensures scrapped { Scrapped docket job.old file.old shelves.old result job.new file.new shelves.new }
+    ensures balance { IfOk result IsBalanced }
 {
-    if job.ledger.number != Some(docket.spend()) {
+    if !job.has_number(docket.spend()) {
         return Err(Refusal::OtherDocket);
     }
     if !job.has_length(file) {

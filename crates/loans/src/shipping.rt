@@ -1,26 +1,41 @@
 // Shipping a job.
-ghost use Rattle.std.specs.Prelude.{◌≡◌, IfErr};
-ghost use Rattle.loans.specs.Shipping.{Shipped};
+ghost use Rattle.std.specs.Prelude.{◌≡◌, IfErr, IfOk};
+ghost use Rattle.loans.specs.Jobs.{book_of, IsBalanced};
+ghost use Rattle.loans.specs.Shipping.{is_job_number, Shipped};
 
 use crate::docket::Docket;
 use crate::job::Job;
 use crate::ledger::Report;
 use refusal::Refusal;
 
-// A docket that could not be spent comes back with the refusal.
+/// A docket that could not be spent, and why.
 #[derive(PartialEq, Eq, Debug)]
 pub struct Unspent {
+    /// the docket that was handed in
     pub docket: Docket,
+    /// OtherDocket or LoansOut
     pub refusal: Refusal,
 }
 
-// Ends a job with no loans out: empties it and answers its report. Refuses with OtherDocket, then with LoansOut, and hands the
-// docket back.
-pub fn ship(docket: Docket, job: &mut Job) -> Result<Report, Unspent>
+impl Job {
+    // The job has that number; an empty job has none.
+    pub(crate) fn has_number(&self, number: u64) -> bool
+        ensures { result ≡ is_job_number (book_of self.now).number number }
+    {
+        self.ledger
+            .number
+            .is_some_and(|own| u64::from(own) == number)
+    }
+}
+
+/// Ends a job with no loans out: empties it and answers its report. Refuses with OtherDocket, then with LoansOut, and hands the
+/// docket back.
+pub fn ship(mut docket: Docket, job: &mut Job) -> Result<Report, Unspent>
     ensures shipped { Shipped docket job.old result job.new }
     ensures same { IfErr result (λ unspent. unspent.docket ≡ docket) }
+    ensures balance { IfOk result IsBalanced }
 {
-    if job.ledger.number != Some(docket.number()) {
+    if !job.has_number(docket.number()) {
         return Err(Unspent {
             docket,
             refusal: Refusal::OtherDocket,

@@ -1,7 +1,7 @@
 // What calls work on: files, shelves, jobs; and how they stand at one time.
 use crate::scripts::{Line, Row, State, Stock};
 use formats::{BuiltInCodes, Format};
-use loans::{Answer, Call, Docket, Job, Mark, Report, RunFault, Shelves, run, scrap};
+use loans::{Answer, Call, Docket, Job, Mark, Report, Shelves, run, scrap};
 use refusal::Refusal;
 use shelf::Shelf;
 use std::alloc::{AllocGlobal, Global};
@@ -119,14 +119,15 @@ impl Desk<'_> {
         Ok(())
     }
 
-    // Opens the job with number 1, and makes the calls.
+    // Opens the job with number 1, and makes the calls; there is room for their answers.
     pub(crate) fn run(
         &mut self,
         format: &Format,
         calls: &[Call<'_>],
         answers: &mut Vec<Answer>,
-    ) -> Result<Docket, RunFault> {
-        run(
+    ) -> Result<Docket, Fail> {
+        answers.reserve(calls.len())?;
+        Ok(run(
             &mut self.job,
             &mut self.file,
             &mut self.shelves,
@@ -134,7 +135,7 @@ impl Desk<'_> {
             format,
             calls,
             answers,
-        )
+        )?)
     }
 
     // Scraps the job.

@@ -20,7 +20,7 @@ const NOTHING: Stock<'static> = (&[], &[]);
 
 // The report, or the refusal and the number of the docket that came back. A match and no map_err, here and below, since a docket must be spent in
 // the arm that has it.
-fn shipped(docket: Docket, job: &mut Job) -> Result<Report, (Refusal, u32)> {
+fn shipped(docket: Docket, job: &mut Job) -> Result<Report, (Refusal, u64)> {
     match ship(docket, job) {
         Ok(report) => Ok(report),
         Err(Unspent { docket, refusal }) => {
@@ -41,7 +41,7 @@ fn check_unshipped(
     let before = job.report();
     assert_eq!(rt;
         shipped(docket_of(file, number)?, job),
-        Err((refusal, number))
+        Err((refusal, u64::from(number)))
     );
     assert_eq!(rt; job.report(), before);
     Ok(())
@@ -262,7 +262,7 @@ fn check_refused_run(
             spend(docket, job);
             Err(Fail::new("a file that is too short opens"))
         }
-        Err(RunFault::NoMemory) => Err(Fail::new("no memory")),
+        Err(RunFault::NoRoom) => Err(Fail::new("no room is told before the refusal")),
         Err(RunFault::Refused(refusal)) => {
             assert_eq!(rt; refusal, Refusal::WrongEnd);
             assert_eq!(rt; answers.len(), 1);

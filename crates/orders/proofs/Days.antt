@@ -17,12 +17,12 @@ use Rattle.loans.specs.declared.mark.Shelves.{Shelves}
 use Rattle.loans.specs.Jobs.{book_of, fresh_book}
 use Rattle.loans.specs.Strokes.{State, state_of}
 use Rattle.loans.specs.Rules.{Deed, answers_to, after_all}
-use Rattle.loans.specs.History.{history_of}
+use Rattle.loans.specs.History.{history_of, told}
 use Rattle.loans.specs.Law.{Law}
 use Rattle.loans.specs.Runs.{opened_state}
 use Rattle.loans.specs.Scrapping.{AtHome}
 use Rattle.loans.proofs.Calls.{answers_to_length}
-use Rattle.loans.proofs.Runs.{law_run, ours_run}
+use Rattle.loans.proofs.Runs.{law_run, told_again, ours_run}
 use Rattle.orders.specs.declared.day.Ending.{Ending}
 use Rattle.orders.specs.declared.day.Ending.TheVariants.{Refused, Shipped, Scrapped}
 use Rattle.orders.specs.Lines.{lines_of}
@@ -67,17 +67,20 @@ module _ (g : DayInputs) (y : Layout) (opened : MasterOpened g (Ok y)) where
     end : s ≡ after_all first calls
     end = all.left ∙ ap (λ (x : State). after_all x calls) same
 
-    law : Law y.table 1 64 4096 g.master (history_of calls (answers_to first calls)) s
-    law = subst (Law y.table 1 64 4096 g.master (history_of calls (answers_to first calls))) (sym end) (law_run y 1 g.master empty_stock calls sized refl refl)
+    law : Law y 1 64 4096 g.master (history_of calls (answers_to first calls)) s
+    law = subst (Law y 1 64 4096 g.master (history_of calls (answers_to first calls))) (sym end) (law_run y 1 g.master empty_stock calls sized refl refl)
+
+    told_so : s ≡ told y.table 1 64 4096 g.master (history_of calls (answers_to first calls))
+    told_so = told_again y 1 64 4096 g.master (history_of calls (answers_to first calls)) s law
 
     pub numbered : s.book.number ≡ Some 1
-    numbered = ap (λ (x : State). x.book.number) law.state
+    numbered = ap (λ (x : State). x.book.number) told_so
 
     pub at_home : AtHome s
     at_home =
         let ours = ours_run y 1 g.master empty_stock calls sized refl refl in
         subst AtHome (sym end) (record {
-          sized = ours.1 ∙ sym (ap (λ (x : State). x.book.table.length) (sym end ∙ law.state));
+          sized = ours.1 ∙ sym (ap (λ (x : State). x.book.table.length) (sym end ∙ told_so));
           ours = ours.0;
         })
 

@@ -94,7 +94,7 @@ pub record Worked (g : DayInputs) (ending : Ending) (file new : List ℕ) : Type
   pub by_rules : answers ≡ answers_to (opened_state layout.table 1 g.master empty_stock) (calls_in wishes)
   pub printed : new ≡ g.before ++ (answer_lines (answers_in wishes answers) ++ reply_text (closing_reply ending))
   pub end : State
-  pub law : Law layout.table 1 64 4096 g.master (history_of (calls_in wishes) answers) end
+  pub law : Law layout 1 64 4096 g.master (history_of (calls_in wishes) answers) end
   pub closed : Closed end ending file
 
 -- where no order is carried out, one line tells why, and nothing changes

@@ -103,7 +103,7 @@ fn answer_all(
 
 // Ships, or scraps where a loan is out.
 fn close(docket: Docket, job: &mut Job, file: &mut [u8], shelves: &mut Shelves<'_>) -> Ending
-    requires number { (book_of job.old).number ≡ Some docket.number }
+    requires number { (book_of job.old).number ≡ Some docket.0 }
     requires home { AtHome (state_of job.old file.old shelves.old) }
     ensures { Closed (state_of job.old file.old shelves.old) result file.new }
 {

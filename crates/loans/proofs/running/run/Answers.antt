@@ -1,4 +1,4 @@
-use Rattle.std.proofs.Common.{ℕ, List, map, Ok, Err, vec_items, refl, subst₂, arith}
+use Rattle.std.proofs.Common.{ℕ, List, map, Ok, Err, vec_items, vec_capacity, refl, subst₂, arith}
 use Rattle.std.proofs.lemmas.List.{length-map}
 use Rattle.std.proofs.lemmas.Result.{err_from_is_err_and}
 use Rattle.dds.specs.Layouts.{Opened}
@@ -6,8 +6,8 @@ use Rattle.loans.specs.Rules.{deed_of}
 use Rattle.loans.proofs.RunMade.{made_job, opened_along, run_made}
 use Rattle.loans.proofs.running.run.Goals as goal
 
-pub returns-in_err-layout-clause-ran : goal.returns-in_err-layout-clause-ran
-returns-in_err-layout-clause-ran g c =
+pub returns-in_err-layout : goal.returns-in_err-layout
+returns-in_err-layout g c =
     let p = err_from_is_err_and c.from_residual.result c.from_residual.ensures.1 in
     rw (p.1, p.2) (
       subst₂ (λ (h : List ℕ) (n : ℕ). Opened h n (g.F.Family.row_bytes c.args.family.now) (g.F.Family.rows c.args.family.now) (Err c.in_err-layout.field-0.0))
@@ -15,18 +15,16 @@ returns-in_err-layout-clause-ran g c =
       (refl, refl, refl, refl),
     )
 
-pub returns-in_err-reserve-clause-ran : goal.returns-in_err-reserve-clause-ran
-returns-in_err-reserve-clause-ran g c =
-    let p = err_from_is_err_and c.from_residual-in_err-reserve.result c.from_residual-in_err-reserve.ensures.1 in
-    rw (p.1, p.2) (
-      (
-        c.in_ok-layout.layout,
-        subst₂ (λ (h : List ℕ) (n : ℕ). Opened h n (g.F.Family.row_bytes c.args.family.now) (g.F.Family.rows c.args.family.now) (Ok c.in_ok-layout.layout))
-            c.of.ensures.head c.of.ensures.length c.in_ok-layout.ensures,
-      ),
-      omega (arith, c.in_err-reserve.ensures.full, length-map c.args.calls.now deed_of),
-      (refl, refl, refl, c.in_err-reserve.ensures.items),
-    )
+pub returns-then-capacity-len : goal.returns-then-capacity-len
+returns-then-capacity-len g c = (
+  (
+    c.in_ok-layout.layout,
+    subst₂ (λ (h : List ℕ) (n : ℕ). Opened h n (g.F.Family.row_bytes c.args.family.now) (g.F.Family.rows c.args.family.now) (Ok c.in_ok-layout.layout))
+        c.of.ensures.head c.of.ensures.length c.in_ok-layout.ensures,
+  ),
+  omega (arith, length-map c.args.calls.now deed_of),
+  (refl, refl, refl, refl),
+)
 
 pub call_all-requires-clause-along : goal.call_all-requires-clause-along
 call_all-requires-clause-along g c =
@@ -41,15 +39,16 @@ call_all-requires-clause-along g c =
       shelves = c.args.shelves.now;
       calls = map deed_of c.args.calls.now;
       old = vec_items c.args.answers.now;
+      room = vec_capacity c.args.answers.now;
     }) c.fresh-opened.result
     (made_job _ c.fresh-opened.result c.in_ok-layout.layout opened c.fresh-opened.ensures.layout c.fresh-opened.ensures.book)
     c.are_empty.result c.are_empty.ensures
 
-pub returns-clause-ran : goal.returns-clause-ran
-returns-clause-ran g c =
+pub returns : goal.returns
+returns g c =
     let opened =
     subst₂ (λ (h : List ℕ) (n : ℕ). Opened h n (g.F.Family.row_bytes c.args.family.now) (g.F.Family.rows c.args.family.now) (Ok c.in_ok-layout.layout))
     c.of.ensures.head c.of.ensures.length c.in_ok-layout.ensures in
     run_made _ c.fresh-opened.result
     (made_job _ c.fresh-opened.result c.in_ok-layout.layout opened c.fresh-opened.ensures.layout c.fresh-opened.ensures.book)
-    c.of-2.result c.of-2.ensures.number _ _ _ c.in_ok-reserve.ensures.items c.call_all.ensures
+    c.of-2.result c.of-2.ensures (omega (arith, length-map c.args.calls.now deed_of, c.capacity.ensures, c.len.ensures)) _ _ _ refl c.call_all.ensures

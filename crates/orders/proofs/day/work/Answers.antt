@@ -11,7 +11,7 @@ pub close-requires-clause-home : goal.close-requires-clause-home
 close-requires-clause-home c =
     let g : DayInputs = record { master = c.args.master.now; orders = c.args.orders.now; before = vec_items c.args.printed.now } in
     let job = c.open.new.self in
-    let opened = c.in-Ok.ensures.opened in
+    let opened = c.in-Ok.ensures in
     let first = first_state g job c.of-shelves.result _ _ _ _ opened.2 c.of-shelves.ensures.marks c.of-shelves.ensures.bytes c.new.ensures c.new-2.ensures refl refl in
     first_home g job.layout opened.1 _ first
 
@@ -19,7 +19,7 @@ pub returns-in-Err-reserve : goal.returns-in-Err-reserve
 returns-in-Err-reserve c =
     let g : DayInputs = record { master = c.args.master.now; orders = c.args.orders.now; before = vec_items c.args.printed.now } in
     let job = c.open.new.self in
-    let opened = c.in-Ok.ensures.opened in
+    let opened = c.in-Ok.ensures in
     let first = first_state g job c.of-shelves.result _ _ _ _ opened.2 c.of-shelves.ensures.marks c.of-shelves.ensures.bytes c.new.ensures c.new-2.ensures refl refl in
     inr (job.layout, opened.1, (omega (arith, c.in-Err-reserve.ensures.full), first_closed g job.layout opened.1 _ c.close.result c.close.new.file first c.close.ensures, c.reserve.ensures.items))
 
@@ -27,7 +27,7 @@ pub close-ending-requires-clause-number : goal.close-ending-requires-clause-numb
 close-ending-requires-clause-number c =
     let g : DayInputs = record { master = c.args.master.now; orders = c.args.orders.now; before = vec_items c.args.printed.now } in
     let job = c.open.new.self in
-    let opened = c.in-Ok.ensures.opened in
+    let opened = c.in-Ok.ensures in
     let first = first_state g job c.of-shelves.result _ _ _ _ opened.2 c.of-shelves.ensures.marks c.of-shelves.ensures.bytes c.new.ensures c.new-2.ensures refl refl in
     let before = state_of job c.args.master.now c.of-shelves.result in
     let after = state_of c.answer_all.new.job c.answer_all.new.file c.answer_all.new.shelves in
@@ -40,7 +40,7 @@ pub close-ending-requires-clause-home : goal.close-ending-requires-clause-home
 close-ending-requires-clause-home c =
     let g : DayInputs = record { master = c.args.master.now; orders = c.args.orders.now; before = vec_items c.args.printed.now } in
     let job = c.open.new.self in
-    let opened = c.in-Ok.ensures.opened in
+    let opened = c.in-Ok.ensures in
     let first = first_state g job c.of-shelves.result _ _ _ _ opened.2 c.of-shelves.ensures.marks c.of-shelves.ensures.bytes c.new.ensures c.new-2.ensures refl refl in
     let before = state_of job c.args.master.now c.of-shelves.result in
     let after = state_of c.answer_all.new.job c.answer_all.new.file c.answer_all.new.shelves in
@@ -53,7 +53,7 @@ pub returns : goal.returns
 returns c =
     let g : DayInputs = record { master = c.args.master.now; orders = c.args.orders.now; before = vec_items c.args.printed.now } in
     let job = c.open.new.self in
-    let opened = c.in-Ok.ensures.opened in
+    let opened = c.in-Ok.ensures in
     let first = first_state g job c.of-shelves.result _ _ _ _ opened.2 c.of-shelves.ensures.marks c.of-shelves.ensures.bytes c.new.ensures c.new-2.ensures refl refl in
     let before = state_of job c.args.master.now c.of-shelves.result in
     let after = state_of c.answer_all.new.job c.answer_all.new.file c.answer_all.new.shelves in
