@@ -51,7 +51,7 @@ fn tell_file(told: &mut String, deed: &str, name: &str, length: usize) -> Result
     writeln!(told, "{deed} {name}: {length} bytes")
 }
 
-// Makes the calls, and tells each with its answer.
+// Makes the calls, and tells each with its answer; the longest of them has 54 characters.
 fn work(
     rt: &HostRuntime,
     told: &mut String,
@@ -62,9 +62,9 @@ fn work(
     for call in calls {
         let answer = desk.carry_out(*call);
         answers.push(answer)?;
-        let words = CallText(*call);
+        let words = CallText(*call).to_string(rt.alloc())?;
         let answer = AnswerText(*call, answer);
-        writeln!(told, "{words}: {answer}")?;
+        writeln!(told, "{words:<54}  {answer}")?;
     }
     Ok(answers)
 }
