@@ -21,7 +21,8 @@ changed_count before after =
 -- what the runs of changed bytes are
 pub record AreChanges (before after : List ℕ) (cs : List Change) : Type 0 where
   -- a place lies in one exactly where the two files' bytes differ, or only one file has a byte
-  pub differ : (place : ℕ) → Any (λ c. Spans c place) cs ↔ (slice_get before place ≢ slice_get after place)
+  pub differ : (place : ℕ)
+      → Any (λ c. Spans c place) cs ↔ (slice_get before place ≢ slice_get after place)
   -- none is empty
   pub filled : All (λ c. 0 < c.length) cs
   -- they come in rising order and do not touch: a place between two lies in none
@@ -40,15 +41,18 @@ led_by place (c ∷ cs) =
 -- the runs of places that pass a test, of so many places from one on
 abbrev pub runs_of : (ℕ → Bool) → ℕ → ℕ → List Change
 runs_of p place zero = []
-runs_of p place (suc n) = cond (p place) (led_by place (runs_of p (place + 1) n)) (runs_of p (place + 1) n)
+runs_of p place (suc n) =
+    cond (p place) (led_by place (runs_of p (place + 1) n)) (runs_of p (place + 1) n)
 
 -- of the runs from one place up to another, the first, behind which the others are left; or there are none
 abbrev pub IsFirstRun : (ℕ → Bool) → ℕ → ℕ → Option Change → Type 0
 IsFirstRun p a b None = runs_of p a (b - a) ≡ []
 IsFirstRun p a b (Some c) =
-    (c.place + c.length ≤ b) × (runs_of p a (b - a) ≡ c ∷ runs_of p (c.place + c.length) (b - (c.place + c.length)))
+    (c.place + c.length ≤ b)
+    × (runs_of p a (b - a) ≡ c ∷ runs_of p (c.place + c.length) (b - (c.place + c.length)))
 
 -- what is left of changes that are read one after the other
 abbrev pub changes_left : Changes → List Change
 changes_left cs =
-    runs_of (is_changed cs.before.now cs.after.now) cs.next (max (length cs.before.now) (length cs.after.now) - cs.next)
+    runs_of (is_changed cs.before.now cs.after.now) cs.next
+    (max (length cs.before.now) (length cs.after.now) - cs.next)

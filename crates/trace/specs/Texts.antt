@@ -41,7 +41,8 @@ owned_text (Some byte) = codes ", piece " ++ (piece_text byte.0 ++ (codes " offs
 -- who painted a byte, behind what it is said of
 abbrev pub painted_text : Option Painter → List ℕ
 painted_text None = []
-painted_text (Some who) = codes ", by borrower " ++ (decimal who.borrower ++ (codes " in loan " ++ decimal who.loan))
+painted_text (Some who) =
+    codes ", by borrower " ++ (decimal who.borrower ++ (codes " in loan " ++ decimal who.loan))
 
 -- a change with its first byte's owner and painter
 abbrev pub change_text : TracedChange → List ℕ

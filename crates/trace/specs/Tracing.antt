@@ -12,7 +12,8 @@ use Rattle.trace.specs.declared.changes.Change.{Change}
 use Rattle.trace.specs.declared.traced.TracedChange.{TracedChange}
 
 -- a change with its first byte's owner and painter
-pub record TracedSo (job : Job) (calls : List Call) (answers : List (Result ℕ Refusal)) (c : Change) (t : TracedChange) : Type 0 where
+pub record TracedSo (job : Job) (calls : List Call) (answers : List (Result ℕ Refusal))
+    (c : Change) (t : TracedChange) : Type 0 where
   -- the change itself
   pub change : t.change ≡ c
   -- whose its first byte is, as the job's layout has it
@@ -21,7 +22,8 @@ pub record TracedSo (job : Job) (calls : List Call) (answers : List (Result ℕ 
   pub painter : Traced (book_of job).table (map deed_of calls) answers c.place t.painter
 
 -- refused where the layout refuses the place of the first byte
-abbrev pub ChangeTraced : Job → List Call → List (Result ℕ Refusal) → Change → Result TracedChange Refusal → Type 0
+abbrev pub ChangeTraced : Job → List Call → List (Result ℕ Refusal) → Change
+    → Result TracedChange Refusal → Type 0
 ChangeTraced job calls answers c (Ok t) = TracedSo job calls answers c t
 ChangeTraced job calls answers c (Err e) = WhoseIs job.layout c.place (Err e)
 
@@ -34,4 +36,5 @@ piece_or_first (Err e) = record { element = 0; level = 0; slice = 0 }
 -- the piece that has the last byte of a file of that length
 abbrev pub LastPiece : Job → ℕ → Piece → Type 0
 LastPiece job length p =
-    (owner : Result (Option (Piece × ℕ)) Refusal) × WhoseIs job.layout (length - 1) owner × (p ≡ piece_or_first owner)
+    (owner : Result (Option (Piece × ℕ)) Refusal)
+    × WhoseIs job.layout (length - 1) owner × (p ≡ piece_or_first owner)

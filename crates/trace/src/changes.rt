@@ -31,7 +31,8 @@ fn is_changed(before: &[u8], after: &[u8], place: usize) -> bool
 
 // The first run of changed bytes, as long as it can be, of the places from one on.
 fn first_change(before: &[u8], after: &[u8], from: usize) -> Option<Change>
-    ensures { IsFirstRun (is_changed before.now after.now) from (max (length before.now) (length after.now)) result }
+    ensures { IsFirstRun (is_changed before.now after.now) from
+        (max (length before.now) (length after.now)) result }
 {
     let end = before.len().max(after.len());
     let place = (from..end).find(|place| is_changed(before, after, *place))?;
@@ -79,4 +80,39 @@ pub fn changed_bytes(before: &[u8], after: &[u8]) -> usize
     (0..end)
         .filter(|place| is_changed(before, after, *place))
         .count()
+}
+
+#[cfg(test)]
+mod tests {
+    use super::*;
+
+    #[test]
+    fn tells_each_run_whole(rt: HostRuntime) {
+        let cases: [(&[u8], &[u8], &[(usize, usize)]); 8] = [
+            (b"", b"", &[]),
+            (b"abcdef", b"abcdef", &[]),
+            (b"abcdef", b"aBcdEF", &[(1, 1), (4, 2)]),
+            (b"abcdef", b"ABcDef", &[(0, 2), (3, 1)]),
+            (b"abcdef", b"ABCDEF", &[(0, 6)]),
+            (b"abc", b"abCde", &[(2, 3)]),
+            (b"abcde", b"Abc", &[(0, 1), (3, 2)]),
+            (b"", b"ab", &[(0, 2)]),
+        ];
+        for (before, after, wanted) in cases {
+            let mut changes = Changes::of(before, after);
+            for (place, length) in wanted {
+                let run = Change {
+                    place: *place,
+                    length: *length,
+                };
+                assert_eq!(rt; changes.next(), Some(run));
+            }
+            assert_eq!(rt; changes.next(), None);
+            let total: usize = wanted
+                .iter()
+                .map(|run| run.1)
+                .fold(0, |sum, length| sum.saturating_add(length));
+            assert_eq!(rt; changed_bytes(before, after), total);
+        }
+    }
 }
