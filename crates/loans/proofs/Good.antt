@@ -13,7 +13,7 @@ use Rattle.loans.specs.declared.ledger.Loan.{Loan}
 use Rattle.loans.specs.Lists.{less_first, less_all}
 use Rattle.loans.specs.Lending.{granting, piece_is_out}
 use Rattle.loans.specs.Stocks.{is_number, is_out, the_loan}
-use Rattle.loans.specs.Strokes.{Painting, stroke_place}
+use Rattle.loans.specs.Strokes.{Painting}
 use Rattle.loans.specs.History.{Stroke, stroke_of, stroke_length, covers, laying, undoable}
 use Rattle.loans.specs.Law.{NumberedFromOne, OfPiece, Spans, Apart, InRow}
 use Rattle.loans.proofs.Listed.{Among, among_from, all_of, all_among, Split, all_less_first, kept_by_same, among_kept_by, some_of_push}
@@ -89,7 +89,9 @@ row_in ls ls' s e k h = record {
   some = h.some;
   row = subst (λ (l : Loan). s.painting.row < l.area.rows) e h.row;
   end = subst (λ (l : Loan). s.painting.first + stroke_length s ≤ l.area.row_bytes) e h.end;
-  place = h.place ∙ ap (λ (l : Loan). stroke_place l.area s.painting) e;
+  place = h.place ∙ ap (λ (l : Loan). l.area.place + (s.painting.row * l.area.row_bytes + s.painting.first)) e;
+  not_before = subst (λ (l : Loan). l.area.place ≤ s.place) e h.not_before;
+  not_behind = subst (λ (l : Loan). s.place + stroke_length s ≤ l.area.place + l.area.length) e h.not_behind;
 }
 
 -- a loan granted leaves the loans before it as they were
@@ -226,7 +228,17 @@ module _ (t : Table) (mm mb : ℕ) (opening : List ℕ) where
       pub laying_row : (the_loan os p.loan).borrower ≡ p.borrower → InRow ls stroke
       laying_row whose =
           row_in os ls stroke (sym (loan_known p.loan out)) (out_known p.loan out)
-          (record { lent = out; piece = refl; borrower = sym whose; some = some; row = low; end = short; place = refl })
+          (record {
+            lent = out;
+            piece = refl;
+            borrower = sym whose;
+            some = some;
+            row = low;
+            end = short;
+            place = refl;
+            not_before = subst (λ (l : Loan). l.area.place ≤ stroke.place) (loan_known p.loan out) laying_laid.inside.start;
+            not_behind = subst (λ (l : Loan). stroke.place + stroke_length stroke ≤ l.area.place + l.area.length) (loan_known p.loan out) laying_laid.inside.end;
+          })
 
       spares : (j : Stroke) → Laid opening ls j → Spares os stroke j
       spares j r o ne i c d =

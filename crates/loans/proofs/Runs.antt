@@ -1,27 +1,35 @@
 -- The law over every list of calls, and that the job's own file and shelves are never taken for others.
-use Rattle.std.proofs.Common.{◌≡◌, ℕ, ◌≤◌, true, List, [], ◌∷◌, length, Some, None, Option, sym, refl, ap, ◌∙◌, subst}
+use Rattle.std.proofs.Common.{◌≡◌, ℕ, ◌≤◌, true, not, List, [], ◌∷◌, map, length, get_or, Some, None, Ok, Err, Option, Result, arith, sym, refl, ap, ◌∙◌, subst}
 use Rattle.std.specs.List.{AllByRecursion}
-use Rattle.std.proofs.ByRecursion.{All-weaker}
-use Rattle.std.proofs.lemmas.List.FromFn.{fill_by_all}
+use Rattle.std.proofs.ByRecursion.{All-weaker, all_kept_by}
+use Rattle.std.proofs.lemmas.List.FromFn.{fill_by_all, get_or-map-range_with_len}
 use Rattle.std.proofs.lemmas.List.{length-map}
 use Rattle.refusal.specs.declared.Refusal.{Refusal}
 use Rattle.dds.specs.declared.layout.Layout.{Layout}
 use Rattle.dds.specs.declared.table.Table.{Table}
 use Rattle.dds.specs.Places.{AreaOf}
 use Rattle.loans.specs.declared.ledger.Loan.{Loan}
+use Rattle.loans.specs.declared.mark.Mark.{Mark}
 use Rattle.loans.specs.Jobs.{fresh_book}
-use Rattle.loans.specs.Stocks.{Stock, are_ours}
-use Rattle.loans.specs.Strokes.{State}
+use Rattle.loans.specs.Books.{no_loan}
+use Rattle.loans.specs.Stocks.{Stock, is_number, is_out, the_loan, are_ours}
+use Rattle.loans.specs.Strokes.{State, counted_loan}
 use Rattle.loans.specs.Rules.{Deed, call_refusal, carried_out, number_for, refusal_or, left, answer_to, after, answers_to, after_all}
 use Rattle.loans.specs.Rules.Deed.{lend, paint, undo, keep, cancel}
-use Rattle.loans.specs.History.{Event, written_down, history_of, lent, out_in, keeps_in, cancels_in, standing, ever_laid, byte_under, undoable, mark_of, told}
-use Rattle.loans.specs.Law.{Answered, TakenAsOwn, OfPiece, OfListed, Law}
+use Rattle.loans.specs.History.{Event, Stroke, written_down, history_of, lent, out_in, keeps_in, cancels_in, stroke_of, standing_after, standing, laid_after, ever_laid, byte_under, undoable, mark_of, told}
+use Rattle.loans.specs.Law.{Answered, TakenAsOwn, OfPiece, OfListed, CountsMarks, Law}
 use Rattle.loans.specs.Runs.{opened_state}
+use Rattle.loans.proofs.Listed.{all_less_first, first_among, all_among}
 use Rattle.loans.proofs.Lawful.{Lawful, lawful, listed_area}
 use Rattle.loans.proofs.Good.{good_none, outs_apart}
 use Rattle.loans.proofs.Ours.{told_ours, told_same, told_length}
 use Rattle.loans.proofs.Homely.{homely, homely_answer}
 use Rattle.loans.proofs.Steps.{Fine, Next, step_lend, step_paint, step_undo, step_keep, step_cancel}
+
+-- loans that are counted by marks count them
+all_count_marks : (ms : List Mark) (ls : List Loan) → AllByRecursion (CountsMarks ms) (map (counted_loan ms) ls)
+all_count_marks ms [] = tt
+all_count_marks ms (l ∷ ls) = (refl, all_count_marks ms ls)
 
 module _ (y : Layout) (number mm mb : ℕ) (opening : List ℕ) (lawful : Lawful y.table (length opening)) (same : length opening ≡ y.table.length) where
   abbrev t : Table
@@ -90,19 +98,33 @@ module _ (y : Layout) (number mm mb : ℕ) (opening : List ℕ) (lawful : Lawful
   stands_law s h w =
       let e = w.state in
       let f = w.fine in
+      let ss : List Stroke = standing t opening h in
       record {
-        state = e;
-        same_length = ap (λ (x : State). length x.file) e ∙ told_length opening (standing t opening h);
+        same_length = ap (λ (x : State). length x.file) e ∙ told_length opening ss;
+        each_byte = λ place low. ap (λ (x : State). get_or x.file place 0) e ∙ get_or-map-range_with_len (byte_under opening ss) 0 (length opening) place place 0 low (omega arith);
+        marks = ap (λ (x : State). x.stock.marks) e;
+        kept_bytes = ap (λ (x : State). x.stock.bytes) e;
+        marks_room = ap (λ (x : State). x.stock.most_marks) e;
+        bytes_room = ap (λ (x : State). x.stock.most_bytes) e;
+        marks_fit = subst (λ (n : ℕ). n ≤ mm) (sym (ap (λ (x : State). length x.stock.marks) e ∙ length-map (undoable (out_in t h) ss) mark_of)) f.good.fits.marks;
+        bytes_fit = subst (λ (n : ℕ). n ≤ mb) (sym (ap (λ (x : State). length x.stock.bytes) e)) f.good.fits.bytes;
+        numbered = ap (λ (x : State). x.book.number) e;
+        table = ap (λ (x : State). x.book.table) e;
+        loans = ap (λ (x : State). x.book.outs) e ∙ ap (λ ms. map (counted_loan ms) (out_in t h)) (sym (ap (λ (x : State). x.stock.marks) e));
+        strokes = subst (λ (x : State). AllByRecursion (CountsMarks x.stock.marks) x.book.outs) (sym e) (all_count_marks (here h).stock.marks (out_in t h));
+        granted = ap (λ (x : State). x.book.granted) e;
+        kept = ap (λ (x : State). x.book.kept) e;
+        cancelled = ap (λ (x : State). x.book.cancelled) e;
+        balance = f.balance;
+        mark_count = subst (λ (x : State). x.book.marks ≡ length x.stock.marks) (sym e) refl;
+        byte_count = subst (λ (x : State). x.book.bytes ≡ length x.stock.bytes) (sym e) refl;
         answers = w.answers;
         own = w.own;
         numbers = f.good.numbers;
         pieces = f.good.pieces;
         areas = All-weaker (OfPiece t) (OfListed y) listed (lent t h) f.good.pieces;
-        apart = outs_apart t mm mb opening (lent t h) (out_in t h) (standing t opening h) f.good lawful;
+        apart = outs_apart t mm mb opening (lent t h) (out_in t h) ss f.good lawful;
         rows = f.rows;
-        balance = f.balance;
-        marks_fit = subst (λ (n : ℕ). n ≤ mm) (sym (ap (λ (x : State). length x.stock.marks) e ∙ length-map (undoable (out_in t h) (standing t opening h)) mark_of)) f.good.fits.marks;
-        bytes_fit = subst (λ (n : ℕ). n ≤ mb) (sym (ap (λ (x : State). length x.stock.bytes) e)) f.good.fits.bytes;
       }
 
   stands_ours : (s : State) (h : List Event) → Stands s h → (are_ours s.book s.stock ≡ true) × (length s.file ≡ t.length)
@@ -132,10 +154,28 @@ law_run y number file k ds e a b =
     (all_stand_lem y number k.most_marks k.most_bytes file l e ds (opened_state y.table number file k) []
     (opened y number k.most_marks k.most_bytes file l e k a b refl refl))
 
--- the law gives job, file and shelves back as the history tells them
+-- the law's clauses together give job, file and shelves back as the history tells them
 pub told_again : (y : Layout) (number mm mb : ℕ) (opening : List ℕ) (h : List Event) (s : State) → Law y number mm mb opening h s
     → s ≡ told y.table number mm mb opening h
-told_again y number mm mb opening h s law = law.state
+told_again y number mm mb opening h s law =
+    let file' = fill_by_all (byte_under opening (standing y.table opening h)) s.file (length opening) 0 law.same_length law.each_byte in
+    let outs' = law.loans ∙ ap (λ ms. map (counted_loan ms) (out_in y.table h)) law.marks in
+    let marks' = law.mark_count ∙ ap length law.marks in
+    let bytes' = law.byte_count ∙ ap length law.kept_bytes in
+    λ i. record {
+      book = record {
+        table = law.table i;
+        number = law.numbered i;
+        outs = outs' i;
+        granted = law.granted i;
+        kept = law.kept i;
+        cancelled = law.cancelled i;
+        marks = marks' i;
+        bytes = bytes' i;
+      };
+      file = file' i;
+      stock = record { marks = law.marks i; bytes = law.kept_bytes i; most_marks = law.marks_room i; most_bytes = law.bytes_room i };
+    }
 
 -- after every list of calls the shelves are the job's, and the file has the job's length
 pub ours_run : (y : Layout) (number : ℕ) (file : List ℕ) (k : Stock) (ds : List Deed) → length file ≡ y.table.length → k.marks ≡ [] → k.bytes ≡ []
@@ -146,3 +186,24 @@ ours_run y number file k ds e a b =
     stands_ours y number k.most_marks k.most_bytes file l e _ _
     (all_stand_lem y number k.most_marks k.most_bytes file l e ds (opened_state y.table number file k) []
     (opened y number k.most_marks k.most_bytes file l e k a b refl refl))
+
+-- what holds of every stroke ever laid holds of those that stand
+pub standing_all : (P : Stroke → Type 0) (t : Table) (opening : List ℕ) (h : List Event) → AllByRecursion P (ever_laid t opening h) → AllByRecursion P (standing t opening h)
+standing_all P t opening [] a = tt
+standing_all P t opening (e ∷ h) a = go (standing_all P t opening h) e.call e.answer a
+  where
+    Before : Type 0
+    Before = AllByRecursion P (ever_laid t opening h) → AllByRecursion P (standing t opening h)
+
+    go : Before → (d : Deed) (r : Result ℕ Refusal) → AllByRecursion P (laid_after opening (out_in t h) (standing t opening h) (ever_laid t opening h) d r)
+        → AllByRecursion P (standing_after opening (out_in t h) (standing t opening h) d r)
+    go before d (Err x) b = before b
+    go before (lend p who) (Ok k) b = before b
+    go before (paint p) (Ok k) b = (b.0, before b.1)
+    go before (undo n who) (Ok k) b = all_less_first (stroke_of n) P _ (before b)
+    go before (keep n) (Ok k) b = before b
+    go before (cancel n) (Ok k) b = all_kept_by (λ s. not (stroke_of n s)) P _ (before b)
+
+-- what holds of every loan ever granted holds of that of a number
+pub lent_all : (P : Loan → Type 0) (ls : List Loan) (n : ℕ) → AllByRecursion P ls → is_out ls n ≡ true → P (the_loan ls n)
+lent_all P ls n a out = all_among P ls (the_loan ls n) a (first_among (is_number n) no_loan ls out).0

@@ -1,31 +1,33 @@
 -- Which strokes stand, read from the newest call to the oldest.
-use Rattle.std.proofs.Common.{◌≡◌, ℕ, zero, suc, ◌+◌, ◌-◌, ◌<◌, ◌≤◌, min, Bool, true, false, cond, not, ◌&&◌, eqb, ◌⊎◌, List, [], ◌∷◌, ◌++◌, map, length, get_or, take, drop, Some, None, Ok, Err, Option, Result, sym, refl, ap, ◌∙◌, subst, inl, inr, ⊎_elim, arith, ◌||◌}
+use Rattle.std.proofs.Common.{◌≡◌, ℕ, zero, suc, ◌+◌, ◌-◌, ◌*◌, ◌<◌, ◌≤◌, min, Bool, true, false, cond, not, ◌&&◌, eqb, leb, ltb, ◌⊎◌, List, [], ◌∷◌, ◌++◌, map, length, get_or, take, drop, Some, None, Ok, Err, Option, Result, sym, refl, ap, ◌∙◌, subst, inl, inr, ⊎_elim, arith, ◌||◌}
 use Rattle.std.specs.List.{list_any, AllByRecursion, fold, zip}
+use Rattle.std.proofs.ByRecursion.{All-weaker}
 use Rattle.std.proofs.lemmas.List.{drop_more, at_drop_all}
 use Rattle.std.proofs.lemmas.List.Sums.{fold-append}
-use Rattle.std.proofs.lemmas.Bool.{true≢false, cases_lt, eqb-true, eq-eqb, ne_eqb, cond-true, cond-false}
+use Rattle.std.proofs.lemmas.Bool.{true≢false, and_parts, and_from, leb-true, ltb-true, le-leb, lt-ltb, cases_lt, eqb-true, eq-eqb, ne_eqb, cond-true, cond-false}
 use Rattle.refusal.specs.declared.Refusal.{Refusal}
 use Rattle.dds.specs.declared.area.Area.{Area}
 use Rattle.dds.specs.declared.layout.Layout.{Layout}
 use Rattle.dds.specs.declared.piece.Piece.{Piece}
 use Rattle.dds.specs.declared.table.Table.{Table}
-use Rattle.dds.specs.Places.{exists_in, area_in}
+use Rattle.dds.specs.Places.{exists_in, area_in, AreaOf}
 use Rattle.loans.specs.declared.call.Call.{Call}
 use Rattle.loans.specs.declared.ledger.Loan.{Loan}
 use Rattle.painters.specs.declared.Painter.{Painter}
 use Rattle.loans.specs.Lists.{first_or, less_first, less_all}
 use Rattle.loans.specs.Books.{no_loan}
-use Rattle.loans.specs.Stocks.{is_number, is_out, the_loan}
+use Rattle.loans.specs.Stocks.{Stock, is_number, is_out, the_loan}
 use Rattle.loans.specs.Strokes.{stroke_place}
-use Rattle.loans.specs.Rules.{Deed, deed_of}
+use Rattle.loans.specs.Rules.{Deed, deed_of, answers_to}
+use Rattle.loans.specs.Runs.{opened_state}
 use Rattle.loans.specs.Rules.Deed.{lend, paint, undo, keep, cancel}
 use Rattle.loans.specs.Lending.{granting}
-use Rattle.loans.specs.History.{Event, Stroke, written_down, history_of, lent, out_in, stroke_of, reach_over, covers, laying, standing}
-use Rattle.loans.specs.Law.{OfPiece}
-use Rattle.painters.specs.Tracing.{newest_over, paid_off, owing_more, owes_nothing, owed_before, owed, unless_out, piece_after, piece_out, area_for, painter_by, no_call, no_answer, past_of, painter_at, IsNewest, NewestPainter, Traced}
+use Rattle.loans.specs.History.{Event, Stroke, written_down, history_of, lent, out_in, stroke_of, reach_over, covers, laying, standing, ever_laid}
+use Rattle.loans.specs.Law.{OfPiece, OfListed, InRow}
+use Rattle.painters.specs.Tracing.{newest_over, paid_off, owing_more, owes_nothing, owed_before, owed, unless_out, piece_after, piece_out, area_for, painter_by, no_call, no_answer, past_of, painter_at, IsNewest, NewestPainter, begin_of, LiesOver, PaintedBy, IsRun, Traced}
 use Rattle.loans.proofs.Outs.{out_less}
 use Rattle.loans.proofs.Searches.{some_append, first_none}
-use Rattle.loans.proofs.Runs.{law_run}
+use Rattle.loans.proofs.Runs.{law_run, standing_all, lent_all}
 
 -- what each loan owes
 abbrev pub Owes : Type 0
@@ -395,15 +397,97 @@ owed_last cs rs n from k b few inside =
     behind_more (inl h) more = inl (omega arith)
     behind_more (inr h) more = inr (omega arith)
 
--- the law has it that the loans of a run are of pieces that exist
-traced : (y : Layout) (ds : List Deed) (rs : List (Result ℕ Refusal)) (place : ℕ) (r : Option Painter)
-    → (AllByRecursion (OfPiece y.table) (lent y.table (history_of ds rs)) → NewestPainter y.table ds rs place r) → Traced y.table ds rs place r
-traced y ds rs place r newest =
+-- a stroke lies where its own numbers and those of its piece say
+pub record PlacedSo (y : Layout) (s : Stroke) : Type 0 where
+  pub place : s.place ≡ begin_of y.table s
+  pub listed : AreaOf y s.piece (area_in y.table s.piece)
+
+-- a stroke in a row of a loan's piece does
+placed_row : (y : Layout) (ls : List Loan) → AllByRecursion (OfPiece y.table) ls → AllByRecursion (OfListed y) ls → (s : Stroke) → InRow ls s → PlacedSo y s
+placed_row y ls pieces areas s r =
+    let l : Loan = the_loan ls s.painting.loan in
+    let by_table : l.area ≡ area_in y.table l.piece = (lent_all (OfPiece y.table) ls s.painting.loan pieces r.lent).1 in
+    let listed : AreaOf y l.piece l.area = lent_all (OfListed y) ls s.painting.loan areas r.lent in
     record {
-      run = λ number file k same marks bytes answers.
-          newest (subst (λ (x : List (Result ℕ Refusal)). AllByRecursion (OfPiece y.table) (lent y.table (history_of ds x))) (sym answers) (law_run y number file k ds same marks bytes).pieces);
-      pieces = newest;
+      place = r.place ∙ ap (λ (a : Area). a.place + (s.painting.row * a.row_bytes + s.painting.first)) (by_table ∙ ap (area_in y.table) (sym r.piece));
+      listed = subst (λ (p : Piece). AreaOf y p (area_in y.table p)) (sym r.piece) (subst (AreaOf y l.piece) by_table listed);
     }
+
+-- the newest stroke over a byte, by numbers
+painted_by : (y : Layout) (ss : List Stroke) (i : ℕ) → AllByRecursion (PlacedSo y) ss → PaintedBy y ss i (newest_over ss i)
+painted_by y [] i h = tt
+painted_by y (s ∷ ss) i h = go (painted_by y ss i h.1) (covers s i) refl
+  where
+    Free : Stroke → Type 0
+    Free k = LiesOver y.table k i → ⊥
+
+    free : covers s i ≡ false → Free s
+    free e o =
+        let at = h.0.place in
+        let low = o.0 in
+        let high = o.1 in
+        true≢false (sym (and_from _ _ (le-leb s.place i (omega arith)) (lt-ltb i (s.place + length s.painting.laid) (omega arith))) ∙ e)
+
+    more : covers s i ≡ false → (r : Option Painter) → PaintedBy y ss i r → PaintedBy y (s ∷ ss) i r
+    more e None n = (free e, n)
+    more e (Some p) n = record {
+      newer = s ∷ n.newer;
+      stroke = n.stroke;
+      older = n.older;
+      among = ap (λ ks. s ∷ ks) n.among;
+      loan = n.loan;
+      borrower = n.borrower;
+      over = n.over;
+      none_newer = (free e, n.none_newer);
+      listed = n.listed;
+    }
+
+    go : PaintedBy y ss i (newest_over ss i) → (b : Bool) → covers s i ≡ b → PaintedBy y (s ∷ ss) i (cond b (Some (record { loan = s.painting.loan; borrower = s.painting.borrower })) (newest_over ss i))
+    go rest true e =
+        let parts = and_parts (leb s.place i) (ltb i (s.place + length s.painting.laid)) e in
+        let low : s.place ≤ i = leb-true s.place i parts.0 in
+        let high : i < s.place + length s.painting.laid = ltb-true i (s.place + length s.painting.laid) parts.1 in
+        let at : s.place ≡ begin_of y.table s = h.0.place in
+        record {
+          newer = [];
+          stroke = s;
+          older = ss;
+          among = refl;
+          loan = refl;
+          borrower = refl;
+          over = (omega arith, omega arith);
+          none_newer = tt;
+          listed = h.0.listed;
+        }
+    go rest false e = more e (newest_over ss i) rest
+
+-- of a run the law has it that the loans are of pieces that exist, and that each stroke lies in a row of its loan's piece
+traced : (y : Layout) (ds : List Deed) (rs : List (Result ℕ Refusal)) (place : ℕ) (r : Option Painter)
+    → (AllByRecursion (OfPiece y.table) (lent y.table (history_of ds rs)) → NewestPainter y.table ds rs place r) → Traced y ds rs place r
+traced y ds rs place r newest = record { run = of_run; placed = placed_in; pieces = newest }
+  where
+    -- of the answers to a run
+    at_run : (P : List (Result ℕ Refusal) → Type 0) (number : ℕ) (file : List ℕ) (k : Stock) → IsRun y.table number file k ds rs
+        → P (answers_to (opened_state y.table number file k) ds) → P rs
+    at_run P number file k is p = subst P (sym is.answers) p
+
+    of_run : (number : ℕ) (file : List ℕ) (k : Stock) → IsRun y.table number file k ds rs → NewestPainter y.table ds rs place r
+    of_run number file k is =
+        newest (at_run (λ x. AllByRecursion (OfPiece y.table) (lent y.table (history_of ds x))) number file k is (law_run y number file k ds is.length is.marks is.bytes).pieces)
+
+    all_placed : (number : ℕ) (file : List ℕ) (k : Stock) → IsRun y.table number file k ds rs → AllByRecursion (PlacedSo y) (standing y.table file (history_of ds rs))
+    all_placed number file k is =
+        let t : Table = y.table in
+        let h : List Event = history_of ds (answers_to (opened_state t number file k) ds) in
+        let law = law_run y number file k ds is.length is.marks is.bytes in
+        at_run (λ x. AllByRecursion (PlacedSo y) (standing t file (history_of ds x))) number file k is
+        (standing_all (PlacedSo y) t file h
+        (All-weaker (InRow (lent t h)) (PlacedSo y) (placed_row y (lent t h) law.pieces law.areas) (ever_laid t file h) law.rows))
+
+    placed_in : (number : ℕ) (file : List ℕ) (k : Stock) → IsRun y.table number file k ds rs → PaintedBy y (standing y.table file (history_of ds rs)) place r
+    placed_in number file k is =
+        subst (PaintedBy y (standing y.table file (history_of ds rs)) place) (sym (of_run number file k is file))
+        (painted_by y (standing y.table file (history_of ds rs)) place (all_placed number file k is))
 
 -- a walk back to a position: who laid the newest stroke is still to be found before it
 pub record Walked (t : Table) (cs : List Call) (rs : List (Result ℕ Refusal)) (place k : ℕ) : Type 0 where
@@ -429,7 +513,7 @@ walk_start : (t : Table) (cs : List Call) (rs : List (Result ℕ Refusal)) (plac
 walk_start t cs rs place = walk_none t cs rs place (min (length cs) (length rs)) (shorter cs rs (min (length cs) (length rs)) refl) (omega arith) (omega arith)
 
 -- every call was walked past
-pub walk_all : (y : Layout) (cs : List Call) (rs : List (Result ℕ Refusal)) (place k : ℕ) → Walked y.table cs rs place k → k ≤ 0 → Traced y.table (map deed_of cs) rs place None
+pub walk_all : (y : Layout) (cs : List Call) (rs : List (Result ℕ Refusal)) (place k : ℕ) → Walked y.table cs rs place k → k ≤ 0 → Traced y (map deed_of cs) rs place None
 walk_all y cs rs place k w h =
     let none : k ≡ 0 = omega arith in
     traced y (map deed_of cs) rs place None
@@ -492,7 +576,7 @@ walked_past t cs rs place (suc n) k w h none =
     (cases_lt k (suc n))
 
 pub newest_traced : (y : Layout) (cs : List Call) (rs : List (Result ℕ Refusal)) (place : ℕ) (r : Option Painter)
-    → IsNewest y.table cs rs place (min (length cs) (length rs)) r → Traced y.table (map deed_of cs) rs place r
+    → IsNewest y.table cs rs place (min (length cs) (length rs)) r → Traced y (map deed_of cs) rs place r
 newest_traced y cs rs place None none =
     walk_all y cs rs place 0 (walked_past y.table cs rs place (min (length cs) (length rs)) 0 (walk_start y.table cs rs place) (omega arith) (λ j low high. none j high)) (omega arith)
 newest_traced y cs rs place (Some p) it =

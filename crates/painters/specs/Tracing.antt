@@ -1,16 +1,17 @@
 -- Whose stroke lies over a byte, and how it is found without writing anything down.
-use Rattle.std.specs.Prelude.{◌≡◌, ℕ, ◌+◌, ◌-◌, Bool, false, cond, ◌&&◌, List, [], ◌∷◌, map, length, take, drop, Some, None, Ok, Err, Option, Result, MatchOption, ◌<◌, ◌==◌, slice_index_or}
+use Rattle.std.specs.Prelude.{◌≡◌, ℕ, ◌+◌, ◌-◌, ◌*◌, ◌≤◌, Bool, false, cond, ◌&&◌, List, [], ◌∷◌, ◌++◌, map, length, take, drop, Some, None, Ok, Err, Option, Result, MatchOption, ◌<◌, ◌==◌, slice_index_or}
 use Rattle.std.specs.List.{AllByRecursion}
 use Rattle.refusal.specs.declared.Refusal.{Refusal}
 use Rattle.dds.specs.declared.area.Area.{Area}
+use Rattle.dds.specs.declared.layout.Layout.{Layout}
 use Rattle.dds.specs.declared.piece.Piece.{Piece}
 use Rattle.dds.specs.declared.table.Table.{Table}
-use Rattle.dds.specs.Places.{exists_in, area_in}
+use Rattle.dds.specs.Places.{exists_in, area_in, AreaOf}
 use Rattle.loans.specs.declared.call.Call.{Call}
 use Rattle.painters.specs.declared.Painter.{Painter}
 use Rattle.loans.specs.Books.{no_loan}
 use Rattle.loans.specs.Stocks.{Stock}
-use Rattle.loans.specs.Strokes.{stroke_place}
+use Rattle.loans.specs.Strokes.{Painting}
 use Rattle.loans.specs.Rules.{Deed, deed_of, answers_to}
 use Rattle.loans.specs.Rules.Deed.{lend, paint, undo, keep, cancel}
 use Rattle.loans.specs.History.{Event, Stroke, history_of, lent, standing, reach_over, covers}
@@ -27,13 +28,54 @@ newest_over (s ∷ ss) i =
 abbrev pub NewestPainter : Table → List Deed → List (Result ℕ Refusal) → ℕ → Option Painter → Type 0
 NewestPainter t ds rs place r = (opening : List ℕ) → r ≡ newest_over (standing t opening (history_of ds rs)) place
 
+-- where a stroke begins: at its piece's place, row × row bytes, and first together
+abbrev pub begin_of : Table → Stroke → ℕ
+begin_of t s =
+    (area_in t s.piece).place
+    + (s.painting.row * (area_in t s.piece).row_bytes + s.painting.first)
+
+-- the stroke lies over the byte at a place, by the numbers of its piece and its own
+abbrev pub LiesOver : Table → Stroke → ℕ → Type 0
+LiesOver t s place =
+    (begin_of t s ≤ place) × (place < begin_of t s + length s.painting.laid)
+
+-- of strokes, the newest first, the first that lies over the byte is that painter's
+pub record NewestOver (y : Layout) (ss : List Stroke) (place : ℕ) (p : Painter) : Type 0 where
+  pub newer : List Stroke
+  pub stroke : Stroke
+  pub older : List Stroke
+  pub among : ss ≡ newer ++ stroke ∷ older
+  pub loan : p.loan ≡ stroke.painting.loan
+  pub borrower : p.borrower ≡ stroke.painting.borrower
+  pub over : LiesOver y.table stroke place
+  pub none_newer : AllByRecursion (λ s. LiesOver y.table s place → ⊥) newer
+  -- the numbers of its piece are those of the list of pieces
+  pub listed : AreaOf y stroke.piece (area_in y.table stroke.piece)
+
+-- that painter laid the newest stroke over the byte; or none lies over it
+abbrev pub PaintedBy : Layout → List Stroke → ℕ → Option Painter → Type 0
+PaintedBy y ss place None = AllByRecursion (λ s. LiesOver y.table s place → ⊥) ss
+PaintedBy y ss place (Some p) = NewestOver y ss place p
+
+-- the answers are those to a run of the calls on a job just opened on a file, with two empty shelves
+pub record IsRun (t : Table) (number : ℕ) (file : List ℕ) (k : Stock) (ds : List Deed) (rs : List (Result ℕ Refusal)) : Type 0 where
+  pub length : length file ≡ t.length
+  pub marks : k.marks ≡ []
+  pub bytes : k.bytes ≡ []
+  pub answers : rs ≡ answers_to (opened_state t number file k) ds
+
 -- the painter that is told is that of the newest stroke standing over the byte
-pub record Traced (t : Table) (ds : List Deed) (rs : List (Result ℕ Refusal)) (place : ℕ) (r : Option Painter) : Type 0 where
+pub record Traced (y : Layout) (ds : List Deed) (rs : List (Result ℕ Refusal)) (place : ℕ) (r : Option Painter) : Type 0 where
   -- after every run of calls on a job just opened, with two empty shelves
-  pub run : (number : ℕ) (file : List ℕ) (k : Stock) → length file ≡ t.length → k.marks ≡ [] → k.bytes ≡ []
-      → rs ≡ answers_to (opened_state t number file k) ds → NewestPainter t ds rs place r
-  -- and by whatever calls and answers, as long as every loan granted is of a piece that exists
-  pub pieces : AllByRecursion (OfPiece t) (lent t (history_of ds rs)) → NewestPainter t ds rs place r
+  pub run : (number : ℕ) (file : List ℕ) (k : Stock)
+      → IsRun y.table number file k ds rs → NewestPainter y.table ds rs place r
+  -- and there each stroke lies where its numbers say
+  pub placed : (number : ℕ) (file : List ℕ) (k : Stock)
+      → IsRun y.table number file k ds rs
+      → PaintedBy y (standing y.table file (history_of ds rs)) place r
+  -- by whatever calls and answers, as long as every loan granted is of a piece that exists
+  pub pieces : AllByRecursion (OfPiece y.table) (lent y.table (history_of ds rs))
+      → NewestPainter y.table ds rs place r
 
 -- Read from the newest call to the oldest, an undo owes one stroke of its loan, which the next stroke of the loan pays; a cancel
 -- takes back all of its loan's strokes before it. A stroke stands where nothing is owed.
@@ -90,11 +132,15 @@ abbrev pub area_for : Table → Option Piece → Area
 area_for t None = no_loan.area
 area_for t (Some p) = cond (exists_in t p) (area_in t p) no_loan.area
 
+-- a stroke laid in an area so lies over the byte at a place
+abbrev pub lies_over : Area → Painting → ℕ → Bool
+lies_over a p place = reach_over (a.place + (p.row * a.row_bytes + p.first)) (length p.laid) place
+
 -- who painted by a call, where its stroke lies over the byte and stands
 abbrev pub painter_by : Table → (ℕ → Option Piece) → (ℕ → Option ℕ) → ℕ → Deed → Result ℕ Refusal → Option Painter
 painter_by t pieces owes place d (Err e) = None
 painter_by t pieces owes place (paint p) (Ok x) =
-    cond (reach_over (stroke_place (area_for t (pieces p.loan)) p) (length p.laid) place && owes_nothing (owes p.loan))
+    cond (lies_over (area_for t (pieces p.loan)) p place && owes_nothing (owes p.loan))
     (Some (record { loan = p.loan; borrower = p.borrower })) None
 painter_by t pieces owes place d (Ok x) = None
 

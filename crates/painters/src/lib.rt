@@ -3,18 +3,20 @@
 
 ghost use Rattle.std.specs.Prelude.{◌≡◌, ◌<◌, min, map, length, take, drop, Some};
 ghost use Rattle.loans.specs.Jobs.{book_of};
-ghost use Rattle.loans.specs.Strokes.{painting_of, stroke_place};
+ghost use Rattle.loans.specs.Strokes.{painting_of};
 ghost use Rattle.loans.specs.Rules.{deed_of};
-ghost use Rattle.loans.specs.History.{history_of, reach_over};
-ghost use Rattle.painters.specs.Tracing.{Traced, owed_before, owed, piece_after, piece_out, area_for, painter_at, IsNewest};
+ghost use Rattle.loans.specs.History.{history_of};
+ghost use Rattle.painters.specs.Tracing.{Traced, owed_before, owed, piece_after, piece_out, area_for, lies_over, painter_at, IsNewest};
 
 use dds::{Area, Piece};
 use loans::{Answer, Call, Job, Painting};
 
-// Who laid a stroke: the loan and its borrower.
+/// Who laid a stroke.
 #[derive(Clone, Copy, PartialEq, Eq, Debug)]
 pub struct Painter {
+    /// the loan's number
     pub loan: u32,
+    /// the borrower's number
     pub borrower: u32,
 }
 
@@ -50,7 +52,7 @@ fn piece_after(found: Option<Piece>, loan: u32, call: Call<'_>, answer: Answer) 
 
 // Places are compared by differences, since a place and an offset in made-up calls could wrap.
 fn reaches_over(area: Area, painting: Painting<'_>, place: u64) -> bool
-    ensures { result ≡ reach_over (stroke_place area (painting_of painting.entry)) (length (painting_of painting.entry).laid) place }
+    ensures { result ≡ lies_over area (painting_of painting.entry) place }
 {
     let offset = painting.row as u64 * area.row_bytes as u64 + painting.first as u64;
     let length = painting.bytes.len() as u64;
@@ -134,10 +136,14 @@ impl History<'_> {
     }
 }
 
-// Who laid the newest stroke that stands over the byte at a place, after a run of calls that were answered so; none where no
-// stroke does. Calls and answers are two lists, as a run takes and gives them.
+/// Who laid the newest stroke that stands over the byte at a place, after a run of calls that were answered so; none where no
+/// stroke does. Calls and answers are two lists, as a run takes and gives them. Of calls and answers that no run gave, it tells the
+/// last call that painted over the byte and is not taken back, where a stroke of a loan that is not out, or whose piece does not exist,
+/// begins at the file's byte `first`.
 pub fn painter_of(job: &Job, calls: &[Call<'_>], answers: &[Answer], place: u64) -> Option<Painter>
-    ensures { Traced (book_of job.now).table (map deed_of calls.now) answers.now place result }
+    ensures traced { Traced job.now.layout (map deed_of calls.now) answers.now place result }
+    ensures exact { IsNewest (book_of job.now).table calls.now answers.now place
+        (min (length calls.now) (length answers.now)) result }
 {
     History { calls, answers }.newest_painter(job, place)
 }
