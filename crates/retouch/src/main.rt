@@ -58,7 +58,7 @@ fn work(
     calls: &[Call<'_>],
     desk: &mut Desk<'_>,
 ) -> Result<Vec<Answer>, AllocError> {
-    let mut answers = Vec::new(rt.alloc());
+    let mut answers = Vec::with_capacity(rt.alloc(), calls.len())?;
     for call in calls {
         let answer = desk.carry_out(*call);
         answers.push(answer)?;

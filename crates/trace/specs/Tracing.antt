@@ -1,5 +1,5 @@
 -- Whose the changed bytes are, and who painted them.
-use Rattle.std.specs.Prelude.{◌≡◌, ℕ, ◌-◌, List, map, Some, None, Ok, Err, Option, Result}
+use Rattle.std.specs.Prelude.{◌≡◌, ℕ, ◌-◌, min, List, map, length, Some, None, Ok, Err, Option, Result}
 use Rattle.refusal.specs.declared.Refusal.{Refusal}
 use Rattle.dds.specs.declared.piece.Piece.{Piece}
 use Rattle.dds.specs.Places.{WhoseIs}
@@ -7,7 +7,7 @@ use Rattle.loans.specs.declared.call.Call.{Call}
 use Rattle.loans.specs.declared.job.Job.{Job}
 use Rattle.loans.specs.Jobs.{book_of}
 use Rattle.loans.specs.Rules.{deed_of}
-use Rattle.painters.specs.Tracing.{Traced}
+use Rattle.painters.specs.Tracing.{Traced, IsNewest}
 use Rattle.trace.specs.declared.changes.Change.{Change}
 use Rattle.trace.specs.declared.traced.TracedChange.{TracedChange}
 
@@ -18,8 +18,11 @@ pub record TracedSo (job : Job) (calls : List Call) (answers : List (Result ℕ 
   pub change : t.change ≡ c
   -- whose its first byte is, as the job's layout has it
   pub owner : WhoseIs job.layout c.place (Ok t.owner)
-  -- who painted it
-  pub painter : Traced (book_of job).table (map deed_of calls) answers c.place t.painter
+  -- who painted it, after a run of the calls
+  pub painter : Traced job.layout (map deed_of calls) answers c.place t.painter
+  -- and by whatever calls and answers
+  pub exact : IsNewest (book_of job).table calls answers c.place
+      (min (length calls) (length answers)) t.painter
 
 -- refused where the layout refuses the place of the first byte
 abbrev pub ChangeTraced : Job → List Call → List (Result ℕ Refusal) → Change
