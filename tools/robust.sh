@@ -122,8 +122,9 @@ tell 'no room for shipped.dds' "$(fails "$day")" "$(seen "$(cat status)")"
 
 # killed at each system call, and each of them failing; its lines are as those here
 python3 "$root/tools/system_calls.py" "$bin" | tee calls
-count=$((count + $(grep -c '' calls)))
-failed=$((failed + $(grep -cv '^ok' calls)))
+status=${PIPESTATUS[0]}
+count=$((count + $(grep -c '' calls))) failed=$((failed + $(grep -c '^FAIL' calls)))
+tell 'the kills and the failing calls were tried' "$(grep -q '^FAIL' calls && echo 1 || echo 0)" "$status"
 
 fresh
 tell 'pieces of an absent file' "$(fails '')" "$(run pieces absent.dds)"
@@ -188,6 +189,10 @@ fresh && : > out
 (cd run && "$bin/retouch" cube.dds shipped.dds > /dev/full 2> ../err)
 status=$?
 tell 'retouch into a file, its steps to a full disk' "$(fails '' ', shipped.dds whole')" "$(seen $status)"
+fresh && : > out
+(cd run && "$bin/retouch" cube.dds shipped.dds >&- 2> ../err)
+status=$?
+tell 'retouch into a file, closed standard output' "$(fails '' ', shipped.dds whole')" "$(seen $status)"
 fresh && : > out
 (cd run && { sleep 0.2; "$bin/retouch" cube.dds shipped.dds 2> ../err; echo $? > ../status; } | true)
 tell 'retouch for a reader that is gone' 'status 0, "", 0 lines of error, shipped.dds whole' "$(seen "$(cat status)")"
