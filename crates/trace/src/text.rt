@@ -116,3 +116,22 @@ impl fmt::Display for TracedChange {
         write!(f, "{length} bytes from place {place} on{owner}{painter}")
     }
 }
+
+#[cfg(test)]
+mod tests {
+    use super::*;
+
+    #[test]
+    fn tells_nothing_of_nobody(rt: HostRuntime) {
+        let traced = TracedChange {
+            change: Change {
+                place: 4,
+                length: 2,
+            },
+            owner: None,
+            painter: None,
+        };
+        let told = traced.to_string(rt.alloc());
+        assert!(rt; told.is_ok_and(|text| text.as_str() == "2 bytes from place 4 on"));
+    }
+}
