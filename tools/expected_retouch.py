@@ -62,7 +62,8 @@ def lines_of(cube):
         done, number = job.answer(call)
         if done and call[0] == 'Loan':
             borrowers[number] = call[4]
-        yield f'{words_of(call)}: {f"{COUNTED[call[0]]} {number}" if done else f"refusal {number}: {MEANINGS[number]}"}'
+        answer = f'{COUNTED[call[0]]} {number}' if done else f'refusal {number}: {MEANINGS[number]}'
+        yield f'{words_of(call):<54}  {answer}'
     after = job.file()
     places = [place for place in range(len(after)) if after[place] != cube.bytes[place]]
     for _, run in itertools.groupby(enumerate(places), lambda pair: pair[1] - pair[0]):

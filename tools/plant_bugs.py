@@ -41,7 +41,7 @@ import tempfile
 import time
 
 ROOT = pathlib.Path(__file__).resolve().parent.parent
-LIBRARIES = ["refusal", "formats", "shelf", "listing", "painters", "orders", "dds", "loans"]
+LIBRARIES = ["refusal", "formats", "shelf", "listing", "painters", "orders", "trace", "dds", "loans"]
 WANTED = 3
 
 # Comments, strings and characters, in which a brace is no brace.

@@ -3,19 +3,20 @@
 #![tactic(auto)]
 
 mod session;
-mod text;
 
-use crate::session::{Change, Desk, changed_runs, last_piece, steps, trace};
-use crate::text::{AnswerText, CallText};
+use crate::session::{Desk, steps};
 use formats::BuiltInCodes;
 use loans::{Answer, Call, Job, Mark, Shelves};
 use refusal::Refusal;
 use shelf::Shelf;
+use std::alloc::AllocError;
 use std::fs::File;
-use std::io::Write;
+use std::io::{ErrorKind, Write};
+use std::path::Path;
 use std::process::ExitCode;
 use std::{env, fs, io};
 use thiserror::Error;
+use trace::{AnswerText, CallText, TracedChange, changed_bytes, last_piece};
 
 const USAGE: &str =
     "usage: retouch FILE       retouches a DDS file in memory, and prints each step and which bytes changed
@@ -23,7 +24,8 @@ const USAGE: &str =
 
 The file's first piece is lent to borrower 1 and its last to borrower 2. Both
 paint; borrower 1 takes a stroke back. Loan 1 is kept, loan 2 is cancelled, and
-the file ships. OUT is written as OUT.part and then renamed.";
+the file ships. OUT is written as OUT.part and then renamed, and the steps are
+printed when it stands.";
 
 // Why a file could not be retouched or written.
 #[derive(Debug, Drop, Error)]
@@ -32,106 +34,168 @@ enum Fault {
     Unreadable(io::Error),
     #[error("{0}")]
     Refused(#[from] Refusal),
-    // printing failed, or memory ran out
+    #[error("out of memory")]
+    Memory(#[from] AllocError),
+    #[error("the file beside the output exists")]
+    PartExists,
+    #[error("the output was not written: {0}")]
+    Unwritten(io::Error),
+    #[error("the output's folder was not synced: {0}")]
+    Folder(io::Error),
     #[error("the steps cannot be printed: {0}")]
-    Output(#[from] io::Error),
-    #[error("told already")]
-    Told,
+    Output(io::Error),
 }
 
-// Makes the calls, and tells each with its answer.
-fn work(rt: &HostRuntime, calls: &[Call<'_>], desk: &mut Desk<'_>) -> io::Result<Vec<Answer>> {
-    let mut answers = Vec::new(rt.alloc());
+// A file's name and its length.
+fn tell_file(told: &mut String, deed: &str, name: &str, length: usize) -> Result<(), AllocError> {
+    writeln!(told, "{deed} {name}: {length} bytes")
+}
+
+// Makes the calls, and tells each with its answer; the longest of them has 54 characters.
+fn work(
+    rt: &HostRuntime,
+    told: &mut String,
+    calls: &[Call<'_>],
+    desk: &mut Desk<'_>,
+) -> Result<Vec<Answer>, AllocError> {
+    let mut answers = Vec::with_capacity(rt.alloc(), calls.len())?;
     for call in calls {
         let answer = desk.carry_out(*call);
         answers.push(answer)?;
-        let words = CallText(*call);
+        let words = CallText(*call).to_string(rt.alloc())?;
         let answer = AnswerText(*call, answer);
-        println!(rt; "{words}: {answer}")?;
+        writeln!(told, "{words:<54}  {answer}")?;
     }
     Ok(answers)
 }
 
 // A line for each run of changed bytes.
-fn tell_changes(rt: &HostRuntime, changes: &[Change]) -> io::Result<()> {
-    let mut total = 0usize;
-    for change in changes {
-        total = total.saturating_add(change.places.len());
-        println!(rt; "changed: {change}")?;
+fn tell_changes(
+    told: &mut String,
+    before: &[u8],
+    desk: &Desk<'_>,
+    calls: &[Call<'_>],
+    answers: &[Answer],
+) -> Result<(), Fault> {
+    for change in desk.changes(before) {
+        let change = TracedChange::of(&desk.job, calls, answers, change)?;
+        writeln!(told, "changed: {change}")?;
     }
-    println!(rt; "changed: {total} bytes in all")
+    let total = changed_bytes(before, desk.file);
+    writeln!(told, "changed: {total} bytes in all")?;
+    Ok(())
 }
 
+// What is told of a texture: each step with its answer, then what changed.
 fn work_and_tell(
     rt: &HostRuntime,
+    told: &mut String,
     path: &str,
     before: &[u8],
     desk: &mut Desk<'_>,
-) -> io::Result<()> {
+) -> Result<(), Fault> {
     let length = desk.file.len();
-    println!(rt; "open {path}: {length} bytes")?;
-    let calls = steps(last_piece(&desk.job, length));
-    let answers = work(rt, &calls, desk)?;
-    let mut changes = changed_runs(rt.alloc(), before, desk.file)?;
-    trace(&mut changes, &desk.job, &calls, &answers);
-    tell_changes(rt, &changes)
+    tell_file(told, "open", path, length)?;
+    let calls = steps(last_piece(&desk.job, length as u64));
+    let answers = work(rt, told, &calls, desk)?;
+    tell_changes(told, before, desk, &calls, &answers)
 }
 
-// Under a name beside it, which must be free, and then renamed.
-fn write_whole(rt: &HostRuntime, out: &str, bytes: &[u8]) -> io::Result<()> {
-    let beside = format!(in rt.alloc(); "{out}.part")?;
-    let mut part = File::create_new(rt, beside.as_str())?;
-    let written = part
-        .write_all(bytes)
-        .and_then(|()| fs::rename(rt, beside.as_str(), out));
-    if written.is_err() {
-        let _ = fs::remove_file(rt, beside.as_str());
-    }
-    written
-}
-
-fn retouch(rt: &HostRuntime, path: &str, file: &mut [u8], before: &[u8]) -> Result<(), Fault> {
+fn retouch(
+    rt: &HostRuntime,
+    told: &mut String,
+    path: &str,
+    before: &[u8],
+    file: &mut [u8],
+) -> Result<(), Fault> {
     let mut marks = [Mark::default(); 16];
     let mut bytes = [0u8; 256];
     let shelves = Shelves::of(Shelf::new(&mut marks), Shelf::new(&mut bytes));
     let mut job = Job::empty();
     let docket = job.open(file, 1, &BuiltInCodes)?;
     let mut desk = Desk { job, file, shelves };
-    let told = work_and_tell(rt, path, before, &mut desk);
+    let worked = work_and_tell(rt, told, path, before, &mut desk);
     let ended = desk.finish(docket);
-    told?;
+    worked?;
     let report = ended?;
     let granted = report.granted;
     let kept = report.kept;
     let cancelled = report.cancelled;
-    println!(rt; "ship: {granted} loans granted, {kept} kept, {cancelled} cancelled")?;
+    writeln!(
+        told,
+        "ship: {granted} loans granted, {kept} kept, {cancelled} cancelled"
+    )?;
     Ok(())
 }
 
-fn run(rt: &HostRuntime, path: &str, out: Option<&String>) -> Result<(), Fault> {
-    let before = fs::read(rt, path).map_err(Fault::Unreadable)?;
-    let mut file = before
-        .clone()
-        .map_err(|error| Fault::Unreadable(error.into()))?;
-    retouch(rt, path, &mut file, &before)?;
-    let Some(out) = out else {
-        return Ok(());
+// A name is on the disk once its folder is.
+fn sync_folder(rt: &HostRuntime, out: &str) -> io::Result<()> {
+    let folder = match Path::new(out).parent() {
+        Some(folder) if !folder.as_str().is_empty() => folder.as_str(),
+        _ => ".",
     };
-    let length = file.len();
-    match write_whole(rt, out.as_str(), &file) {
-        Ok(()) => Ok(println!(rt; "write {out}: {length} bytes")?),
-        Err(error) => {
-            eprintln!(rt; "retouch: {out} was not written, through {out}.part: {error}")?;
-            Err(Fault::Told)
-        }
+    File::open(rt, folder)?.sync_all()
+}
+
+// Whole or not at all, and on the disk before it has its name. The name beside it must be free: what stands there is the user's.
+fn write_whole(rt: &HostRuntime, out: &str, bytes: &[u8]) -> Result<(), Fault> {
+    let beside = format!(in rt.alloc(); "{out}.part")?;
+    let mut part = match File::create_new(rt, beside.as_str()) {
+        Ok(part) => part,
+        Err(error) if error.kind() == ErrorKind::AlreadyExists => return Err(Fault::PartExists),
+        Err(error) => return Err(Fault::Unwritten(error)),
+    };
+    let written = part
+        .write_all(bytes)
+        .and_then(|()| part.sync_all())
+        .and_then(|()| fs::rename(rt, beside.as_str(), out));
+    if written.is_err() {
+        let _ = fs::remove_file(rt, beside.as_str());
+    }
+    written.map_err(Fault::Unwritten)?;
+    sync_folder(rt, out).map_err(Fault::Folder)
+}
+
+fn run(rt: &HostRuntime, told: &mut String, path: &str, out: Option<&str>) -> Result<(), Fault> {
+    let before = fs::read(rt, path).map_err(Fault::Unreadable)?;
+    let mut file = before.clone()?;
+    retouch(rt, told, path, &before, &mut file)?;
+    if let Some(out) = out {
+        write_whole(rt, out, &file)?;
+        tell_file(told, "write", out, file.len())?;
+    }
+    Ok(())
+}
+
+// All at once and last, so that a reader who goes away leaves the output whole; that is no fault.
+fn print(rt: &HostRuntime, told: &str) -> Result<(), Fault> {
+    match rt.stdout().write_all(told.as_bytes()) {
+        Err(error) if error.kind() != ErrorKind::BrokenPipe => Err(Fault::Output(error)),
+        _ => Ok(()),
     }
 }
 
-// What fails is told once; the status says that it did.
+// Says on standard error why it failed.
+fn complain(rt: &HostRuntime, path: &str, out: &str, fault: &Fault) -> io::Result<()> {
+    match fault {
+        Fault::PartExists => eprintln!(rt;
+            "retouch: {out} was not written: {out}.part exists; remove it, if a run that was ended left it"
+        ),
+        Fault::Unwritten(error) => eprintln!(rt;
+            "retouch: {out} was not written, through {out}.part: {error}"
+        ),
+        Fault::Folder(error) => eprintln!(rt;
+            "retouch: {out} was written, and a power cut may undo that: {error}"
+        ),
+        fault => eprintln!(rt; "retouch: {path}: {fault}"),
+    }
+}
+
+// What fails is told once, behind what was done; the status says that it did.
 fn main(rt: HostRuntime) -> io::Result<ExitCode> {
     let args: Vec<String> = env::args(&rt)?.skip(1).collect(rt.alloc())?;
     let path = match args.first() {
-        Some(path) if path.as_str() != "--help" => path,
+        Some(path) if path.as_str() != "--help" => path.as_str(),
         _ => {
             println!(rt; "{USAGE}")?;
             return Ok(ExitCode::SUCCESS);
@@ -141,10 +205,15 @@ fn main(rt: HostRuntime) -> io::Result<ExitCode> {
         eprintln!(rt; "{USAGE}")?;
         return Ok(ExitCode::FAILURE);
     }
-    match run(&rt, path.as_str(), args.get(1)) {
-        Ok(()) => return Ok(ExitCode::SUCCESS),
-        Err(Fault::Told) => {}
-        Err(fault) => eprintln!(rt; "retouch: {path}: {fault}")?,
+    let out = args.get(1).map(|out| out.as_str());
+    let mut told = String::new(rt.alloc());
+    let ended = run(&rt, &mut told, path, out);
+    let printed = print(&rt, told.as_str());
+    match ended.and(printed) {
+        Ok(()) => Ok(ExitCode::SUCCESS),
+        Err(fault) => {
+            complain(&rt, path, out.unwrap_or_default(), &fault)?;
+            Ok(ExitCode::FAILURE)
+        }
     }
-    Ok(ExitCode::FAILURE)
 }
