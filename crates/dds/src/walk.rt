@@ -26,7 +26,8 @@ pub(crate) fn element_step(levels: &[Level], elements_left: u64, place: u64) -> 
 fn level_step(levels: &[Level], elements_left: u64, levels_left: &[Level], place: u64) -> u64
     requires sliced { Sliced levels.now }
     requires left { Sliced levels_left.now }
-    requires fits { place + total_of levels_left.now + elements_left * total_of levels.now < 2 ^ 64 }
+    requires fits { place + total_of levels_left.now + elements_left * total_of levels.now
+        < 2 ^ 64 }
     ensures { result ≡ place + total_of levels_left.now + elements_left * total_of levels.now }
 {
     match levels_left {

@@ -19,7 +19,7 @@ pub struct Extent {
 
 /// A way to lay an image out, known by two functions of its width and height: the bytes of a row and the number of rows.
 /// Whoever adds one shows that its answers are these two functions, and that the law holds. Asking changes nothing in it: it can
-/// be copied, so there is no cell in it that could remember that it was asked.
+/// be copied, so there is no cell in it that could remember a question.
 pub trait Family: Copy {
     ghost row_bytes: { Self → ℕ → ℕ → ℕ };
 
@@ -29,7 +29,9 @@ pub trait Family: Copy {
     fn ask(&self, width: u32, height: u32) -> Extent
         ensures { result ≡ extent_of (row_bytes self.now) (rows self.now) width height };
 
-    ghost bounded: { (family : Self) (width height : ℕ) → 1 ≤ width → width ≤ 16384 → 1 ≤ height → height ≤ 16384 → Bounded (row_bytes family) (rows family) width height };
+    ghost bounded: { (family : Self) (width height : ℕ)
+        → 1 ≤ width → width ≤ 16384 → 1 ≤ height → height ≤ 16384
+        → Bounded (row_bytes family) (rows family) width height };
 }
 
 // Each family asks it of both sides itself: a closure with the rest, under one guard, would have to require the same again.
@@ -44,7 +46,8 @@ impl Family for Linear {
 
     ghost rows = { λ family. rows_of (LinearName family.bits) };
 
-    ghost bounded = { λ family width height w1 w2 h1 h2. linear_bounded family.bits width height family.ok w1 h1 };
+    ghost bounded = { λ family width height w1 w2 h1 h2.
+        linear_bounded family.bits width height family.ok w1 h1 };
 
     fn ask(&self, width: u32, height: u32) -> Extent {
         if !is_side(width) || !is_side(height) {

@@ -42,7 +42,8 @@ impl Linear {
     /// Pixels of so many bits; none where no pixel has that size. An `if` and no `then`, whose closure would have to require the size again;
     /// so too for blocks.
     pub fn new(bits: u32) -> Option<Linear>
-        ensures { MatchOption result (is_pixel_size bits ≡ false) (λ f. (is_pixel_size bits ≡ true) × (f.bits ≡ bits)) }
+        ensures { MatchOption result (is_pixel_size bits ≡ false)
+            (λ f. (is_pixel_size bits ≡ true) × (f.bits ≡ bits)) }
     {
         if bits == 1 || bits % 8 == 0 && (8..=128).contains(&bits) {
             Some(Linear { bits })
@@ -62,7 +63,8 @@ impl Linear {
 impl Block {
     /// Blocks of so many bytes; none where no block has that size.
     pub fn new(bytes: u32) -> Option<Block>
-        ensures { MatchOption result (is_block_size bytes ≡ false) (λ f. (is_block_size bytes ≡ true) × (f.bytes ≡ bytes)) }
+        ensures { MatchOption result (is_block_size bytes ≡ false)
+            (λ f. (is_block_size bytes ≡ true) × (f.bytes ≡ bytes)) }
     {
         if bytes == 8 || bytes == 16 {
             Some(Block { bytes })

@@ -41,7 +41,9 @@ impl Job {
     fn end_loan(&mut self, position: usize, ending: Ending, shelves: &Shelves<'_>)
         requires { position < length (book_of self.old).outs }
         ensures layout { self.new.layout ≡ self.old.layout }
-        ensures ledger { self.new.ledger ≡ ledger_ended self.old.ledger position (kept_by ending) (cancelled_by ending) (length (stock_of shelves.now).marks) (length (stock_of shelves.now).bytes) }
+        ensures ledger { self.new.ledger ≡ ledger_ended self.old.ledger position
+            (kept_by ending) (cancelled_by ending)
+            (length (stock_of shelves.now).marks) (length (stock_of shelves.now).bytes) }
     {
         let ledger = &mut self.ledger;
         match ending {

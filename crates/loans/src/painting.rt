@@ -83,7 +83,8 @@ impl Job {
     pub(crate) fn loan_at(&self, position: usize) -> Loan
         requires { position < length (book_of self.now).outs }
         ensures value { result ≡ slice_index_or (book_of self.now).outs position no_loan }
-        ensures inside { result.area.place + result.area.length ≤ (book_of self.now).table.length }
+        ensures inside { result.area.place + result.area.length
+            ≤ (book_of self.now).table.length }
         ensures rows { result.area.length ≡ result.area.row_bytes * result.area.rows }
     {
         self.outs()[position]
@@ -124,7 +125,8 @@ impl Job {
         known: bool,
     ) -> Result<Spot, Refusal>
         requires { OursWhere known (book_of self.now) (stock_of shelves.now) }
-        ensures { PaintTested (state_of self.now file.now shelves.now) (painting_of painting.entry) result }
+        ensures { PaintTested (state_of self.now file.now shelves.now)
+            (painting_of painting.entry) result }
     {
         let position = self.held(file, shelves, painting.loan, painting.borrower, known)?;
         let loan = self.loan_at(position);
@@ -146,7 +148,8 @@ impl Job {
     pub(crate) fn count_strokes(&mut self, position: usize, strokes: u32, shelves: &Shelves<'_>)
         requires { position < length (book_of self.old).outs }
         ensures layout { self.new.layout ≡ self.old.layout }
-        ensures ledger { self.new.ledger ≡ ledger_counted self.old.ledger position strokes (length (stock_of shelves.now).marks) (length (stock_of shelves.now).bytes) }
+        ensures ledger { self.new.ledger ≡ ledger_counted self.old.ledger position strokes
+            (length (stock_of shelves.now).marks) (length (stock_of shelves.now).bytes) }
     {
         let ledger = &mut self.ledger;
         ledger.loans[position].strokes = strokes;

@@ -96,8 +96,11 @@ impl Job {
         answers: &mut Vec<Answer>,
     )
         requires room { vec_len answers.old + length calls.now ≤ vec_capacity answers.old }
-        requires along { OursAlong known (state_of self.old file.old shelves.old) (map deed_of calls.now) }
-        ensures { AllDone (map deed_of calls.now) (state_of self.old file.old shelves.old) answers.old.items (state_of self.new file.new shelves.new) answers.new.items }
+        requires along { OursAlong known (state_of self.old file.old shelves.old)
+            (map deed_of calls.now) }
+        ensures { AllDone (map deed_of calls.now)
+            (state_of self.old file.old shelves.old) answers.old.items
+            (state_of self.new file.new shelves.new) answers.new.items }
     {
         for call in calls {
             answers.push_reserved(self.call(file, shelves, *call, known));

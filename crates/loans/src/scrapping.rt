@@ -15,7 +15,8 @@ impl Job {
     // Cancels every loan out, in the order in which they were granted.
     fn cancel_all(&mut self, file: &mut [u8], shelves: &mut Shelves<'_>)
         requires { AtHome (state_of self.old file.old shelves.old) }
-        ensures { state_of self.new file.new shelves.new ≡ all_cancelled (book_of self.old).outs (state_of self.old file.old shelves.old) }
+        ensures { state_of self.new file.new shelves.new
+            ≡ all_cancelled (book_of self.old).outs (state_of self.old file.old shelves.old) }
     {
         while self.ledger.out > 0 {
             let first = self.loan_at(0).number;

@@ -18,7 +18,8 @@ impl Amount {
     fn and(self, more: Amount) -> Amount
         requires marks { self.marks + more.marks < 2 ^ 64 }
         requires bytes { self.bytes + more.bytes < 2 ^ 64 }
-        ensures { result ≡ record { marks = self.marks + more.marks; bytes = self.bytes + more.bytes } }
+        ensures { result
+            ≡ record { marks = self.marks + more.marks; bytes = self.bytes + more.bytes } }
     {
         Amount {
             marks: self.marks + more.marks,

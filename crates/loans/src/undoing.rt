@@ -51,8 +51,10 @@ impl Shelves<'_> {
     // Puts back what the stroke of the mark at a position covered, and takes mark and bytes off the shelves.
     fn take_back(&mut self, file: &mut [u8], newest: Newest)
         requires { Whole file.old (stock_of self.old) newest.position newest.begin }
-        ensures file { file.new ≡ file_less file.old (stock_of self.old) newest.position newest.begin }
-        ensures shelves { stock_of self.new ≡ stock_less (stock_of self.old) newest.position newest.begin }
+        ensures file { file.new
+            ≡ file_less file.old (stock_of self.old) newest.position newest.begin }
+        ensures shelves { stock_of self.new
+            ≡ stock_less (stock_of self.old) newest.position newest.begin }
     {
         let Newest { position, begin } = newest;
         let mark = self.marks.elements()[position];

@@ -36,7 +36,8 @@ fn are_hex(text: &[u8]) -> bool
 impl<'a> Digits<'a> {
     // The digits that a word spells; none where it is not in pairs, or a character is no digit.
     pub(crate) fn of(text: &'a [u8]) -> Option<Digits<'a>>
-        ensures { option_map (λ digits. hex_bytes digits.digits.now) result ≡ hex_bytes_at text.now }
+        ensures { option_map (λ digits. hex_bytes digits.digits.now) result
+            ≡ hex_bytes_at text.now }
     {
         if text.is_empty() || text.len() % 2 == 1 || !are_hex(text) {
             return None;

@@ -86,7 +86,8 @@ impl History<'_> {
     // What a loan owes before the calls from a position on; none where its strokes are all taken back. The loop goes by position, since
     // what is owed is counted, and is less than the calls that lie behind; the closure of a `try_fold` would not know that.
     fn owed_from(&self, from: usize, loan: u32) -> Option<usize>
-        ensures { result ≡ owed loan (drop from self.now.calls.now) (drop from self.now.answers.now) }
+        ensures { result
+            ≡ owed loan (drop from self.now.calls.now) (drop from self.now.answers.now) }
     {
         let mut owed = 0;
         for position in (from..self.count()).rev() {
@@ -97,7 +98,9 @@ impl History<'_> {
 
     // The piece of the loan of a number that is out before the call at a position.
     fn piece_before(&self, position: usize, loan: u32) -> Option<Piece>
-        ensures { result ≡ piece_out loan (history_of (map deed_of (take position self.now.calls.now)) (take position self.now.answers.now)) }
+        ensures { result ≡ piece_out loan (history_of
+            (map deed_of (take position self.now.calls.now))
+            (take position self.now.answers.now)) }
     {
         self.calls.iter().zip(self.answers).take(position).fold(
             None,
@@ -107,7 +110,10 @@ impl History<'_> {
 
     // Who painted by the call at a position, where its stroke lies over the byte at a place and stands.
     fn painter_at(&self, job: &Job, position: usize, place: u64) -> Option<Painter>
-        ensures { position < length self.now.calls.now → position < length self.now.answers.now → result ≡ painter_at (book_of job.now).table self.now.calls.now self.now.answers.now position place }
+        ensures { position < length self.now.calls.now
+            → position < length self.now.answers.now
+            → result ≡ painter_at (book_of job.now).table
+            self.now.calls.now self.now.answers.now position place }
     {
         let Call::Paint(painting) = *self.calls.get(position)? else {
             return None;
@@ -128,7 +134,8 @@ impl History<'_> {
 
     // Who laid the newest stroke that stands over the byte at a place.
     fn newest_painter(&self, job: &Job, place: u64) -> Option<Painter>
-        ensures { IsNewest (book_of job.now).table self.now.calls.now self.now.answers.now place (min (length self.now.calls.now) (length self.now.answers.now)) result }
+        ensures { IsNewest (book_of job.now).table self.now.calls.now self.now.answers.now place
+            (min (length self.now.calls.now) (length self.now.answers.now)) result }
     {
         (0..self.count())
             .rev()
