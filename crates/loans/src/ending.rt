@@ -83,7 +83,8 @@ impl Job {
         known: bool,
     ) -> Result<u32, Refusal>
         requires { OursWhere known (book_of self.old) (stock_of shelves.old) }
-        ensures { Called (cancel loan) self.old file.old shelves.old result self.new file.new shelves.new }
+        ensures { Called (cancel loan) self.old file.old shelves.old
+            result self.new file.new shelves.new }
     {
         if !self.has_length(file) {
             return Err(Refusal::OtherLength);
@@ -103,8 +104,8 @@ impl Job {
         Ok(self.ledger.out)
     }
 
-    // Ends a loan: its strokes stand for good, and their marks and bytes leave the shelves. Answers how many loans are still out.
-    // Refuses with LoanNotOut, then with ForeignShelves.
+    /// Ends a loan: its strokes stand for good, and their marks and bytes leave the shelves. Answers how many loans are still out.
+    /// Refuses with LoanNotOut, then with ForeignShelves.
     pub fn keep(&mut self, shelves: &mut Shelves<'_>, loan: u32) -> Result<u32, Refusal>
         ensures rule { CalledOnAny (keep loan) self.old shelves.old result self.new shelves.new }
         ensures handed { HandedWhere loan result (book_of self.new) }
@@ -112,15 +113,16 @@ impl Job {
         self.keep_on(shelves, loan, false)
     }
 
-    // Takes back all strokes of a loan, the newest first, and ends it. Answers how many loans are still out. Refuses with
-    // OtherLength, LoanNotOut or ForeignShelves, in this order.
+    /// Takes back all strokes of a loan, the newest first, and ends it. Answers how many loans are still out. Refuses with
+    /// OtherLength, LoanNotOut or ForeignShelves, in this order.
     pub fn cancel(
         &mut self,
         file: &mut [u8],
         shelves: &mut Shelves<'_>,
         loan: u32,
     ) -> Result<u32, Refusal>
-        ensures rule { Called (cancel loan) self.old file.old shelves.old result self.new file.new shelves.new }
+        ensures rule { Called (cancel loan) self.old file.old shelves.old
+            result self.new file.new shelves.new }
         ensures handed { HandedWhere loan result (book_of self.new) }
     {
         self.cancel_on(file, shelves, loan, false)

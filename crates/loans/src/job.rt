@@ -4,8 +4,8 @@ ghost use Rattle.loans.specs.Books.{Balanced, Inside, NumbersGiven, NumbersRise,
 use crate::ledger::Ledger;
 use dds::Layout;
 
-// What is remembered of one opened file: where its pieces stand, its loans, its counts. Not copyable: a copy would keep a loan out
-// that was handed in.
+/// What is remembered of one opened file: where its pieces stand, its loans, its counts. Not copyable: a copy would keep a loan out
+/// that was handed in.
 #[derive(Drop)]
 pub struct Job {
     pub(crate) layout: Layout,

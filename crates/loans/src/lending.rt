@@ -50,8 +50,8 @@ impl Job {
         &self.ledger.loans[0..self.ledger.out as usize]
     }
 
-    // Lends a piece to a borrower, and answers the loan's number. Refuses with NoSuchPiece, PieceOut, TooManyLoans or
-    // NumbersUsedUp, in this order.
+    /// Lends a piece to a borrower, and answers the loan's number. Refuses with NoSuchPiece, PieceOut, TooManyLoans or
+    /// NumbersUsedUp, in this order.
     pub fn loan(&mut self, piece: Piece, borrower: u32) -> Result<u32, Refusal>
         ensures { CalledAlone (lend piece borrower) self.old result self.new }
     {

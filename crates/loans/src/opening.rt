@@ -32,15 +32,15 @@ impl Job {
         }
     }
 
-    // A job that holds no file.
+    /// A job that holds no file.
     pub fn empty() -> Job
         ensures { book_of result ≡ empty_book }
     {
         Job::fresh(Layout::empty(), None)
     }
 
-    // Opens a file with a family that is handed in, whatever the job held. Refuses as Layout::read_with does, and then changes
-    // nothing.
+    /// Opens a file with a family that is handed in, whatever the job held. Refuses as Layout::read_with does, and then changes
+    /// nothing.
     pub fn open_with<F: Family>(
         &mut self,
         file: &[u8],
@@ -55,8 +55,8 @@ impl Job {
         Ok(Docket::of(number))
     }
 
-    // Opens a file by the format that its header names, with a table of the codes other than DX10, whatever the job held. Refuses as
-    // Layout::read does, and then changes nothing.
+    /// Opens a file by the format that its header names, with a table of the codes other than DX10, whatever the job held. Refuses as
+    /// Layout::read does, and then changes nothing.
     pub fn open<T: CodeTable>(
         &mut self,
         file: &[u8],
@@ -70,7 +70,7 @@ impl Job {
         Ok(Docket::of(number))
     }
 
-    // Where a piece stands. Refuses with NoSuchPiece.
+    /// Where a piece stands. Refuses with NoSuchPiece.
     pub fn where_is(&self, piece: Piece) -> Result<Area, Refusal>
         ensures value { WhereIs self.now.layout piece result }
         ensures exact { result ≡ where_in (book_of self.now).table piece }
@@ -78,21 +78,21 @@ impl Job {
         self.layout.place_of(piece)
     }
 
-    // The piece that has the byte at a place, and the byte's offset in it; none for a byte of no piece. Refuses with PastFileEnd.
+    /// The piece that has the byte at a place, and the byte's offset in it; none for a byte of no piece. Refuses with PastFileEnd.
     pub fn whose(&self, place: u64) -> Result<Option<(Piece, u32)>, Refusal>
         ensures { WhoseIs self.now.layout place result }
     {
         self.layout.piece_at(place)
     }
 
-    // The bytes of a piece, a part of the file. Refuses with OtherLength, then with NoSuchPiece.
+    /// The bytes of a piece, a part of the file. Refuses with OtherLength, then with NoSuchPiece.
     pub fn show<'a>(&self, file: &'a [u8], piece: Piece) -> Result<&'a [u8], Refusal>
         ensures { Shown self.now.layout file.now piece result }
     {
         self.layout.bytes_of(file, piece)
     }
 
-    // The job's counts.
+    /// The job's counts of its loans.
     pub fn report(&self) -> Report
         ensures value { result ≡ report_of (book_of self.now) }
         ensures balance { IsBalanced result }

@@ -163,7 +163,8 @@ impl Job {
         known: bool,
     ) -> Result<u32, Refusal>
         requires { OursWhere known (book_of self.old) (stock_of shelves.old) }
-        ensures { Called (paint (painting_of painting.entry)) self.old file.old shelves.old result self.new file.new shelves.new }
+        ensures { Called (paint (painting_of painting.entry)) self.old file.old shelves.old
+            result self.new file.new shelves.new }
     {
         let spot = self.spot_for(file, shelves, painting, known)?;
         let place = spot.place;
@@ -180,15 +181,16 @@ impl Job {
         Ok(strokes)
     }
 
-    // Lays bytes in a row of a loan's piece, shelves the stroke's mark and what it covers, and answers how many strokes the loan
-    // can then undo. Refuses with OtherLength, LoanNotOut, OtherBorrower, ForeignShelves, OutsideRow or NoSpace, in this order.
+    /// Lays bytes in a row of a loan's piece, shelves the stroke's mark and what it covers, and answers how many strokes the loan
+    /// can then undo. Refuses with OtherLength, LoanNotOut, OtherBorrower, ForeignShelves, OutsideRow or NoSpace, in this order.
     pub fn paint(
         &mut self,
         file: &mut [u8],
         shelves: &mut Shelves<'_>,
         painting: Painting<'_>,
     ) -> Result<u32, Refusal>
-        ensures { Called (paint (painting_of painting.entry)) self.old file.old shelves.old result self.new file.new shelves.new }
+        ensures { Called (paint (painting_of painting.entry)) self.old file.old shelves.old
+            result self.new file.new shelves.new }
     {
         self.paint_on(file, shelves, painting, false)
     }

@@ -60,7 +60,8 @@ impl Job {
         known: bool,
     ) -> Result<u32, Refusal>
         requires { OursWhere known (book_of self.old) (stock_of shelves.old) }
-        ensures { Called (deed_of call.entry) self.old file.old shelves.old result self.new file.new shelves.new }
+        ensures { Called (deed_of call.entry) self.old file.old shelves.old
+            result self.new file.new shelves.new }
     {
         match call {
             Call::Loan { piece, borrower } => self.loan(piece, borrower),
@@ -71,14 +72,15 @@ impl Job {
         }
     }
 
-    // Makes one call that is given as a value. Refuses as the call's own method does.
+    /// Makes one call that is given as a value. Refuses as the call's own method does.
     pub fn carry_out(
         &mut self,
         file: &mut [u8],
         shelves: &mut Shelves<'_>,
         call: Call<'_>,
     ) -> Result<u32, Refusal>
-        ensures rule { Called (deed_of call.entry) self.old file.old shelves.old result self.new file.new shelves.new }
+        ensures rule { Called (deed_of call.entry) self.old file.old shelves.old
+            result self.new file.new shelves.new }
         ensures handed { HandedBy (deed_of call.entry) result (book_of self.new) }
     {
         self.call(file, shelves, call, false)
@@ -115,7 +117,7 @@ impl Shelves<'_> {
 /// Opens a job on a file with a family that is handed in, makes the calls in order on it and the shelves, puts an answer for each
 /// behind those in the Vec, and gives the docket. It takes no memory: the Vec has to have room for one answer a call. Refuses as
 /// Layout::read_with does, whatever room there is; then with NoRoom. Either way nothing changes.
-// Shelves that are empty at first are the job's all along, so that no call has to look through them.
+/// Shelves that are empty at first are the job's all along, so that no call has to look through them.
 pub fn run<F: Family>(
     job: &mut Job,
     file: &mut [u8],

@@ -33,7 +33,8 @@ pub fn scrap(
     file: &mut [u8],
     shelves: &mut Shelves<'_>,
 ) -> Result<Report, Refusal>
-    ensures scrapped { Scrapped docket job.old file.old shelves.old result job.new file.new shelves.new }
+    ensures scrapped { Scrapped docket job.old file.old shelves.old
+        result job.new file.new shelves.new }
     ensures balance { IfOk result IsBalanced }
 {
     if !job.has_number(docket.spend()) {

@@ -93,7 +93,8 @@ impl Job {
         known: bool,
     ) -> Result<u32, Refusal>
         requires { OursWhere known (book_of self.old) (stock_of shelves.old) }
-        ensures { Called (undo loan borrower) self.old file.old shelves.old result self.new file.new shelves.new }
+        ensures { Called (undo loan borrower) self.old file.old shelves.old
+            result self.new file.new shelves.new }
     {
         let last = self.last_stroke(file, shelves, loan, borrower, known)?;
         shelves.take_back(file, last.newest);
@@ -102,9 +103,9 @@ impl Job {
         Ok(strokes)
     }
 
-    // Takes back the newest stroke of a loan: puts what it covered back where it lay, takes its mark and bytes off the shelves, and
-    // answers how many strokes the loan has left. Refuses with OtherLength, LoanNotOut, OtherBorrower, ForeignShelves or
-    // NothingToUndo, in this order.
+    /// Takes back the newest stroke of a loan: puts what it covered back where it lay, takes its mark and bytes off the shelves, and
+    /// answers how many strokes the loan has left. Refuses with OtherLength, LoanNotOut, OtherBorrower, ForeignShelves or
+    /// NothingToUndo, in this order.
     pub fn undo(
         &mut self,
         file: &mut [u8],
@@ -112,7 +113,8 @@ impl Job {
         loan: u32,
         borrower: u32,
     ) -> Result<u32, Refusal>
-        ensures { Called (undo loan borrower) self.old file.old shelves.old result self.new file.new shelves.new }
+        ensures { Called (undo loan borrower) self.old file.old shelves.old
+            result self.new file.new shelves.new }
     {
         self.undo_on(file, shelves, loan, borrower, false)
     }

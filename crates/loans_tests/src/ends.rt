@@ -2,10 +2,11 @@
 use crate::altered::base_job;
 use crate::desk::{Desk, docket_of, file_of, opened, shelves_with, spend};
 use crate::expected::{
-    ARRAY_HEAD, BASE_SCRAPPED, BASE_STOCK, FOREIGN, PASSING_SCRAPS, TINY_HEAD, TINY_PIECES,
+    ARRAY_HEAD, ARRAY_PIECES, BASE_SCRAPPED, BASE_STOCK, FOREIGN, PASSING_SCRAPS, TINY_HEAD,
+    TINY_PIECES, VOLUME_HEAD, VOLUME_PIECES,
 };
 use crate::scripts::{Line, Row, State, Stock};
-use dds::Piece;
+use dds::{Area, Piece};
 use formats::{BuiltInCodes, Format, FormatName};
 use loans::{
     Answer, Call, Docket, Job, Mark, Report, RunFault, Shelves, Unspent, run, scrap, ship,
@@ -246,25 +247,25 @@ fn open_again(rt: HostRuntime) -> Result<(), Fail> {
     Ok(())
 }
 
-// A run on a file that is refused changes neither the job nor the answers.
+// A run that is not made changes neither the job nor the answers.
 fn check_refused_run(
     rt: &impl Abort,
     file: &mut [u8],
     job: &mut Job,
     answers: &mut Vec<Answer>,
+    expected: RunFault,
 ) -> Result<(), Fail> {
     let before = job.report();
     let mut shelves = Shelves::of(Shelf::new(&mut []), Shelf::new(&mut []));
     let format = Format::try_from(FormatName::Linear(32))?;
-    let calls = [Call::Keep { loan: 4 }];
+    let calls = [Call::Keep { loan: 4 }; 20];
     match run(job, file, &mut shelves, 2, &format, &calls, answers) {
         Ok(docket) => {
             spend(docket, job);
-            Err(Fail::new("a file that is too short opens"))
+            Err(Fail::new("the run is made"))
         }
-        Err(RunFault::NoRoom) => Err(Fail::new("no room is told before the refusal")),
-        Err(RunFault::Refused(refusal)) => {
-            assert_eq!(rt; refusal, Refusal::WrongEnd);
+        Err(fault) => {
+            assert_eq!(rt; fault, expected);
             assert_eq!(rt; answers.len(), 1);
             assert_eq!(rt; job.report(), before);
             Ok(())
@@ -272,10 +273,75 @@ fn check_refused_run(
     }
 }
 
+// Where there is no room for the answers either, the file's refusal comes first.
 #[test]
 fn refused_run(rt: HostRuntime) -> Result<(), Fail> {
     let (mut job, mut file) = base_job(&rt)?;
-    file.truncate(327);
     let mut answers: Vec<Answer> = vec![in rt.alloc(); Ok(99)]?;
-    check_refused_run(&rt, &mut file, &mut job, &mut answers)
+    check_refused_run(&rt, &mut file, &mut job, &mut answers, RunFault::NoRoom)?;
+    file.truncate(327);
+    let refused = RunFault::Refused(Refusal::WrongEnd);
+    check_refused_run(&rt, &mut file, &mut job, &mut answers, refused)
+}
+
+// A job opened with a family and the number 7. Its docket is spent on another job.
+fn opened_with(rt: &impl Abort, file: &[u8], bits: u32) -> Result<Job, Fail> {
+    let family = Format::try_from(FormatName::Linear(bits))?;
+    let mut job = Job::empty();
+    let docket = job.open_with(file, 7, &family)?;
+    let number = docket.number();
+    spend(docket, &mut Job::empty());
+    assert_eq!(rt; number, 7);
+    Ok(job)
+}
+
+// A piece lies there, and has these bytes.
+fn check_piece(rt: &impl Abort, job: &Job, file: &[u8], piece: Piece, area: Area, bytes: &[u8]) {
+    assert_eq!(rt; job.where_is(piece), Ok(area));
+    assert_eq!(rt; job.show(file, piece), Ok(bytes));
+}
+
+// 2 × 2 × 20 pixels of a byte behind 128 bytes, so the second level begins at 208 and the third at 218.
+#[test]
+fn volume_with_a_family(rt: HostRuntime) -> Result<(), Fail> {
+    let file = file_of(rt.alloc(), VOLUME_HEAD, VOLUME_PIECES)?;
+    let mut job = opened_with(&rt, &file, 8)?;
+    let piece = Piece {
+        element: 0,
+        level: 2,
+        slice: 4,
+    };
+    let area = Area {
+        place: 222,
+        length: 1,
+        row_bytes: 1,
+        rows: 1,
+    };
+    check_piece(&rt, &job, &file, piece, area, b"p");
+    check_unshipped(&rt, &file, &mut job, 8, Refusal::OtherDocket)?;
+    assert_eq!(rt;
+        shipped(docket_of(&file, 7)?, &mut job),
+        Ok(Report::default())
+    );
+    Ok(())
+}
+
+// 4 × 3 pixels of 4 bytes behind 148 bytes: 60 bytes an element, 48 and 8 and 4 of its levels.
+#[test]
+fn array_with_a_family(rt: HostRuntime) -> Result<(), Fail> {
+    let file = file_of(rt.alloc(), ARRAY_HEAD, ARRAY_PIECES)?;
+    let job = opened_with(&rt, &file, 32)?;
+    let piece = Piece {
+        element: 1,
+        level: 1,
+        slice: 0,
+    };
+    let area = Area {
+        place: 256,
+        length: 8,
+        row_bytes: 8,
+        rows: 1,
+    };
+    check_piece(&rt, &job, &file, piece, area, b"tcuhsvhb");
+    Ok(())
 }

@@ -13,3 +13,5 @@ mod expected;
 mod scripts;
 #[cfg(test)]
 mod tests;
+#[cfg(test)]
+mod turned;

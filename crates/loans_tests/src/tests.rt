@@ -1,16 +1,9 @@
-// The crate loans against values that were computed outside of it. Want of memory cannot be provoked here, so the fault that `run`
-// gives for it has no test.
-use crate::desk::{file_of, opened};
+// The crate loans against values that were computed outside of it.
 use crate::expected::{
     CUBE_RUN, EXAMPLE, FULL_HOUSE, MARKS, NEARLY_FULL, NO_CALLS, NO_SHELVES, ROWS, SPACE,
-    TINY_HEAD, TINY_PIECES, VOLUME_RUN,
+    VOLUME_RUN,
 };
 use crate::scripts::check_script;
-use dds::Piece;
-use loans::{Job, Shelves};
-use refusal::Refusal;
-use shelf::Shelf;
-use std::process::Abort;
 use std::test::Fail;
 
 #[test]
@@ -53,39 +46,4 @@ fn calls_on_a_volume(rt: HostRuntime) -> Result<(), Fail> {
 #[test]
 fn calls_on_shelves_often_full(rt: HostRuntime) -> Result<(), Fail> {
     check_script(&rt, &NEARLY_FULL)
-}
-
-fn check_loan_and_keep(
-    rt: &impl Abort,
-    job: &mut Job,
-    shelves: &mut Shelves<'_>,
-    number: u32,
-) -> Result<(), Fail> {
-    assert_eq!(rt; job.loan(Piece::default(), 7), Ok(number));
-    assert_eq!(rt; job.keep(shelves, number), Ok(0));
-    Ok(())
-}
-
-// The last number is still given, and its loan is like any other; then there are none left.
-fn check_all_numbers(
-    rt: &impl Abort,
-    job: &mut Job,
-    shelves: &mut Shelves<'_>,
-) -> Result<(), Fail> {
-    for number in 1..65535u32 {
-        check_loan_and_keep(rt, job, shelves, number)?;
-    }
-    assert_eq!(rt; job.loan(Piece::default(), 7), Ok(65535));
-    assert_eq!(rt; job.loan(Piece::default(), 7), Err(Refusal::PieceOut));
-    assert_eq!(rt; job.keep(shelves, 65535), Ok(0));
-    assert_eq!(rt; job.loan(Piece::default(), 7), Err(Refusal::NumbersUsedUp));
-    assert_eq!(rt; job.report().granted, 65535);
-    Ok(())
-}
-
-#[test]
-fn all_loan_numbers(rt: HostRuntime) -> Result<(), Fail> {
-    let file = file_of(rt.alloc(), TINY_HEAD, TINY_PIECES)?;
-    let mut shelves = Shelves::of(Shelf::new(&mut []), Shelf::new(&mut []));
-    check_all_numbers(&rt, &mut opened(&file)?, &mut shelves)
 }
