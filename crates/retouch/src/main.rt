@@ -157,13 +157,17 @@ fn write_whole(rt: &HostRuntime, out: &str, bytes: &[u8]) -> Result<(), Fault> {
     sync_folder(rt, out).map_err(Fault::Folder)
 }
 
+// The memory for the line that tells of the output is there before that is written.
 fn run(rt: &HostRuntime, told: &mut String, path: &str, out: Option<&str>) -> Result<(), Fault> {
     let before = fs::read(rt, path).map_err(Fault::Unreadable)?;
     let mut file = before.clone()?;
     retouch(rt, told, path, &before, &mut file)?;
     if let Some(out) = out {
+        let mut line = String::new(rt.alloc());
+        tell_file(&mut line, "write", out, file.len())?;
+        told.reserve(line.len())?;
         write_whole(rt, out, &file)?;
-        tell_file(told, "write", out, file.len())?;
+        told.push_str(line.as_str())?;
     }
     Ok(())
 }
