@@ -11,9 +11,10 @@ demo: target/bin/cuivakko target/bin/pieces target/bin/retouch
 	@for file in $(SAMPLES)/*.dds; do echo "$$file"; target/bin/pieces $$file || exit 1; done
 	@target/bin/retouch $(SAMPLES)/cube-rgb.dds
 
-# rt proves a program before it links it, and runs it then: without arguments and input each ends at once.
+# rt proves a program before it links it, and runs it then: without input, and some asked for their usage, each ends at once.
+target/bin/pieces target/bin/retouch: ASKED = -- --help
 target/bin/%: crates.txt $(shell find crates -path '*/out' -prune -o \( -name '*.rt' -o -name '*.antt' \) -print)
-	cd crates/$* && rt run </dev/null >/dev/null
+	cd crates/$* && rt run $(ASKED) </dev/null >/dev/null
 	@mkdir -p target/bin
 	cp crates/$*/out/$* $@
 

@@ -21,6 +21,7 @@ use trace::{AnswerText, CallText, TracedChange, changed_bytes, last_piece};
 const USAGE: &str =
     "usage: retouch FILE       retouches a DDS file in memory, and prints each step and which bytes changed
        retouch FILE OUT   also writes the retouched file, whole or not at all
+       retouch --help     this text
 
 The file's first piece is lent to borrower 1 and its last to borrower 2. Both
 paint; borrower 1 takes a stroke back. Loan 1 is kept, loan 2 is cancelled, and
@@ -156,13 +157,17 @@ fn write_whole(rt: &HostRuntime, out: &str, bytes: &[u8]) -> Result<(), Fault> {
     sync_folder(rt, out).map_err(Fault::Folder)
 }
 
+// The memory for the line that tells of the output is there before that is written.
 fn run(rt: &HostRuntime, told: &mut String, path: &str, out: Option<&str>) -> Result<(), Fault> {
     let before = fs::read(rt, path).map_err(Fault::Unreadable)?;
     let mut file = before.clone()?;
     retouch(rt, told, path, &before, &mut file)?;
     if let Some(out) = out {
+        let mut line = String::new(rt.alloc());
+        tell_file(&mut line, "write", out, file.len())?;
+        told.reserve(line.len())?;
         write_whole(rt, out, &file)?;
-        tell_file(told, "write", out, file.len())?;
+        told.push_str(line.as_str())?;
     }
     Ok(())
 }
@@ -195,19 +200,19 @@ fn complain(rt: &HostRuntime, path: &str, out: &str, fault: &Fault) -> io::Resul
 fn main(rt: HostRuntime) -> io::Result<ExitCode> {
     let args: Vec<String> = env::args(&rt)?.skip(1).collect(rt.alloc())?;
     let path = match args.first() {
-        Some(path) if path.as_str() != "--help" => path.as_str(),
+        Some(path) if args.len() <= 2 => path.as_str(),
         _ => {
-            println!(rt; "{USAGE}")?;
-            return Ok(ExitCode::SUCCESS);
+            eprintln!(rt; "{USAGE}")?;
+            return Ok(ExitCode::FAILURE);
         }
     };
-    if args.len() > 2 {
-        eprintln!(rt; "{USAGE}")?;
-        return Ok(ExitCode::FAILURE);
-    }
     let out = args.get(1).map(|out| out.as_str());
     let mut told = String::new(rt.alloc());
-    let ended = run(&rt, &mut told, path, out);
+    let ended = if path == "--help" {
+        writeln!(told, "{USAGE}").map_err(Fault::Memory)
+    } else {
+        run(&rt, &mut told, path, out)
+    };
     let printed = print(&rt, told.as_str());
     match ended.and(printed) {
         Ok(()) => Ok(ExitCode::SUCCESS),
