@@ -1,6 +1,7 @@
 -- Loans that were handed in stay so.
 use Rattle.std.proofs.Common.{◌≡◌, ℕ, suc, ◌+◌, ◌<◌, ◌≤◌, Bool, true, false, cond, not, eqb, List, [], ◌∷◌, map, length, get_or, Some, None, Ok, Err, filter, Option, Result, sym, refl, ap, ◌∙◌, subst, arith, ◌||◌}
-use Rattle.std.specs.List.{list_any, AllByRecursion}
+use Rattle.std.specs.List.{list_any, All}
+use Rattle.std.proofs.lemmas.List.Elements.{All-from_get_or}
 use Rattle.std.proofs.lemmas.Bool.{true≢false, false≢true, not-false, eqb-true, eq-eqb, ne_eqb}
 use Rattle.refusal.specs.declared.Refusal.{Refusal}
 use Rattle.refusal.specs.declared.Refusal.TheVariants.{OtherLength, LoanNotOut}
@@ -103,7 +104,7 @@ handed_in b n out given xs f k d h =
 
 -- the numbers of the loans out were given
 abbrev pub NumbersGiven : Book → Type 0
-NumbersGiven b = AllByRecursion (λ (l : Loan). l.number ≤ b.granted) b.outs
+NumbersGiven b = All (λ (l : Loan). l.number ≤ b.granted) b.outs
 
 given_out : (b : Book) (n : ℕ) → NumbersGiven b → is_out b.outs n ≡ true → n ≤ b.granted
 given_out b n g out =
@@ -120,14 +121,10 @@ kept_handed_in b k n g out = handed_in (kept_book b k n) n (ended_out n _ b.outs
 pub cancelled_handed_in : (s : State) (n : ℕ) → NumbersGiven s.book → is_out s.book.outs n ≡ true → HandedIn n (cancelled s n).book
 cancelled_handed_in s n g out = handed_in (cancelled s n).book n (ended_out n _ s.book.outs) (given_out s.book n g out)
 
-all_at : {A : Type 0} (P : A → Type 0) (d : A) (xs : List A) → ((k : ℕ) → k < length xs → P (get_or xs k d)) → AllByRecursion P xs
-all_at P d [] h = tt
-all_at P d (x ∷ xs) h = (h 0 (omega arith), all_at P d xs (λ k i. h (suc k) (omega arith)))
-
 -- so it is of every job
 pub job_given : (j : Job) → NumbersGiven (book_of j)
 job_given j =
-    all_at (λ (l : Loan). l.number ≤ j.ledger.granted) no_loan (book_of j).outs
+    All-from_get_or (λ (l : Loan). l.number ≤ j.ledger.granted) (book_of j).outs no_loan
     (λ k h.
     subst (λ (l : Loan). l.number ≤ j.ledger.granted) (sym (out_at j.ledger j.balanced k h))
     (j.given k (omega (arith, out_count j.ledger j.balanced))))

@@ -1,7 +1,7 @@
 -- Loans: which are out after one is granted or ends, which strokes of theirs the shelves hold then, and a book's counts.
 use Rattle.std.proofs.Common.{◌≡◌, ℕ, suc, ◌+◌, ◌<◌, ◌≤◌, Bool, true, false, cond, not, ◌&&◌, ◌||◌, eqb, ◌⊎◌, List, [], ◌∷◌, ◌++◌, map, reverse, length, filter, sym, refl, ap, ◌∙◌, subst, inl, inr, arith}
-use Rattle.std.specs.List.{AllByRecursion}
-use Rattle.std.proofs.ByRecursion.{All-weaker, All-push, all_kept_by}
+use Rattle.std.specs.List.{All}
+use Rattle.std.proofs.lemmas.List.Elements.{All-nil, All-head, All-tail, All-weaker, All-push, All-filter}
 use Rattle.std.proofs.lemmas.Bool.{eqb-true, eqb-false, eq-eqb, ne_eqb, and_right, and_from, or_parts, cases_Bool, both_ways, false≢true}
 use Rattle.dds.specs.declared.piece.Piece.{Piece}
 use Rattle.loans.specs.declared.ledger.Loan.{Loan}
@@ -68,7 +68,7 @@ undoable_cancelled ls n ss = ap reverse (kept_by_twice _ _ ss ∙ kept_by_same _
     same s = rw (out_less ls n s.painting.loan) (and_not (stroke_of n s) (is_out ls s.painting.loan))
 
 -- the shelves of a loan that ended
-pub end_stock : (mm mb : ℕ) (ls : List Loan) (n : ℕ) (ss : List Stroke) → AllByRecursion Even (undoable ls ss)
+pub end_stock : (mm mb : ℕ) (ls : List Loan) (n : ℕ) (ss : List Stroke) → All Even (undoable ls ss)
     → stock_without (shelved mm mb (undoable ls ss)) n ≡ shelved mm mb (undoable (less_all (is_number n) ls) ss)
 end_stock mm mb ls n ss even =
     let ms = kept_by_map mark_of (λ m. not (of_loan n m)) (undoable ls ss) in
@@ -78,15 +78,19 @@ end_stock mm mb ls n ss even =
 -- the numbers rise: no loan is out twice
 abbrev pub Rising : List Loan → Type 0
 Rising [] = Unit {0}
-Rising (l ∷ ls) = AllByRecursion (λ (k : Loan). l.number < k.number) ls × Rising ls
+Rising (l ∷ ls) = All (λ (k : Loan). l.number < k.number) ls × Rising ls
 
-pub rising_push : (ls : List Loan) (l : Loan) → Rising ls → AllByRecursion (λ (k : Loan). k.number < l.number) ls → Rising (ls ++ l ∷ [])
-rising_push [] l r h = (tt, tt)
-rising_push (x ∷ ls) l r h = (All-push (λ (k : Loan). x.number < k.number) ls l r.0 h.0, rising_push ls l r.1 h.1)
+pub rising_push : (ls : List Loan) (l : Loan) → Rising ls → All (λ (k : Loan). k.number < l.number) ls → Rising (ls ++ l ∷ [])
+rising_push [] l r h = (All-nil (λ (k : Loan). l.number < k.number), tt)
+rising_push (x ∷ ls) l r h =
+    let below : (Loan → Type 0) = λ k. k.number < l.number in (
+      All-push (λ (k : Loan). x.number < k.number) ls l r.0 (All-head below x ls h),
+      rising_push ls l r.1 (All-tail below x ls h),
+    )
 
 pub rising_kept : (p : Loan → Bool) (ls : List Loan) → Rising ls → Rising (filter p ls)
 rising_kept p [] r = tt
-rising_kept p (l ∷ ls) r = elim (p l) as (λ b. Rising (cond b (l ∷ filter p ls) (filter p ls))) [ true ↦ (all_kept_by p (λ (k : Loan). l.number < k.number) ls r.0, rising_kept p ls r.1) | false ↦ rising_kept p ls r.1 ]
+rising_kept p (l ∷ ls) r = elim (p l) as (λ b. Rising (cond b (l ∷ filter p ls) (filter p ls))) [ true ↦ (All-filter p (λ (k : Loan). l.number < k.number) ls r.0, rising_kept p ls r.1) | false ↦ rising_kept p ls r.1 ]
 
 -- a loan that ends is one loan less
 pub one_less : (n : ℕ) (ls : List Loan) → Rising ls → is_out ls n ≡ true → length ls ≡ suc (length (less_all (is_number n) ls))

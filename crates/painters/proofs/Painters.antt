@@ -1,7 +1,7 @@
 -- Which strokes stand, read from the newest call to the oldest.
 use Rattle.std.proofs.Common.{◌≡◌, ℕ, zero, suc, ◌+◌, ◌-◌, ◌*◌, ◌<◌, ◌≤◌, min, Bool, true, false, cond, not, ◌&&◌, eqb, leb, ltb, ◌⊎◌, List, [], ◌∷◌, ◌++◌, map, length, get_or, take, drop, Some, None, Ok, Err, Option, Result, sym, refl, ap, ◌∙◌, subst, inl, inr, ⊎_elim, arith, ◌||◌}
-use Rattle.std.specs.List.{list_any, AllByRecursion, fold, zip}
-use Rattle.std.proofs.ByRecursion.{All-weaker}
+use Rattle.std.specs.List.{list_any, All, fold, zip}
+use Rattle.std.proofs.lemmas.List.Elements.{All-nil, All-cons, All-head, All-tail, All-weaker}
 use Rattle.std.proofs.lemmas.List.{drop_more, at_drop_all}
 use Rattle.std.proofs.lemmas.List.Sums.{fold-append}
 use Rattle.std.proofs.lemmas.Bool.{true≢false, and_parts, and_from, leb-true, ltb-true, le-leb, lt-ltb, cases_lt, eqb-true, eq-eqb, ne_eqb, cond-true, cond-false}
@@ -205,24 +205,24 @@ found_ended t n ls o m f = go (eqb m n) refl o f
         }
 
 -- loans that were granted before are among those granted
-pub pieces_before : (t : Table) (d : Deed) (r : Result ℕ Refusal) (h : List Event) → AllByRecursion (OfPiece t) (lent t (record { call = d; answer = r } ∷ h)) → AllByRecursion (OfPiece t) (lent t h)
+pub pieces_before : (t : Table) (d : Deed) (r : Result ℕ Refusal) (h : List Event) → All (OfPiece t) (lent t (record { call = d; answer = r } ∷ h)) → All (OfPiece t) (lent t h)
 pieces_before t d (Err e) h a = a
-pieces_before t (lend p who) (Ok x) h a = a.1
+pieces_before t (lend p who) (Ok x) h a = All-tail (OfPiece t) _ _ a
 pieces_before t (paint p) (Ok x) h a = a
 pieces_before t (undo m who) (Ok x) h a = a
 pieces_before t (keep m) (Ok x) h a = a
 pieces_before t (cancel m) (Ok x) h a = a
 
-found_after : (t : Table) (n : ℕ) (d : Deed) (r : Result ℕ Refusal) (h : List Event) → AllByRecursion (OfPiece t) (lent t (record { call = d; answer = r } ∷ h))
+found_after : (t : Table) (n : ℕ) (d : Deed) (r : Result ℕ Refusal) (h : List Event) → All (OfPiece t) (lent t (record { call = d; answer = r } ∷ h))
     → PieceFound t n (out_in t h) (piece_out n h) → PieceFound t n (out_in t (record { call = d; answer = r } ∷ h)) (piece_after n (piece_out n h) d r)
 found_after t n d (Err e) h a f = f
-found_after t n (lend p who) (Ok x) h a f = found_lent t n (out_in t h) (piece_out n h) x p who a.0.0 f
+found_after t n (lend p who) (Ok x) h a f = found_lent t n (out_in t h) (piece_out n h) x p who (All-head (OfPiece t) _ _ a).0 f
 found_after t n (paint p) (Ok x) h a f = f
 found_after t n (undo m who) (Ok x) h a f = f
 found_after t n (keep m) (Ok x) h a f = found_ended t n (out_in t h) (piece_out n h) m f
 found_after t n (cancel m) (Ok x) h a f = found_ended t n (out_in t h) (piece_out n h) m f
 
-found : (t : Table) (n : ℕ) (h : List Event) → AllByRecursion (OfPiece t) (lent t h) → PieceFound t n (out_in t h) (piece_out n h)
+found : (t : Table) (n : ℕ) (h : List Event) → All (OfPiece t) (lent t h) → PieceFound t n (out_in t h) (piece_out n h)
 found t n [] a = refl
 found t n (e ∷ h) a = found_after t n e.call e.answer h a (found t n h (pieces_before t e.call e.answer h a))
 
@@ -244,7 +244,7 @@ newest_first s ss place false true e = refl
 newest_first s ss place false false e = refl
 
 -- one call further back
-pub walk_one : (t : Table) (opening : List ℕ) (h : List Event) (o : Owes) (place : ℕ) (d : Deed) (r : Result ℕ Refusal) → AllByRecursion (OfPiece t) (lent t h)
+pub walk_one : (t : Table) (opening : List ℕ) (h : List Event) (o : Owes) (place : ℕ) (d : Deed) (r : Result ℕ Refusal) → All (OfPiece t) (lent t h)
     → newest_over (survivors o (standing t opening (record { call = d; answer = r } ∷ h))) place
     ≡ or_else (painter_by t (λ n. piece_out n h) o place d r) (newest_over (survivors (λ m. owed_before m (o m) d r) (standing t opening h)) place)
 walk_one t opening h o place d (Err e) a = refl
@@ -403,7 +403,7 @@ pub record PlacedSo (y : Layout) (s : Stroke) : Type 0 where
   pub listed : AreaOf y s.piece (area_in y.table s.piece)
 
 -- a stroke in a row of a loan's piece does
-placed_row : (y : Layout) (ls : List Loan) → AllByRecursion (OfPiece y.table) ls → AllByRecursion (OfListed y) ls → (s : Stroke) → InRow ls s → PlacedSo y s
+placed_row : (y : Layout) (ls : List Loan) → All (OfPiece y.table) ls → All (OfListed y) ls → (s : Stroke) → InRow ls s → PlacedSo y s
 placed_row y ls pieces areas s r =
     let l : Loan = the_loan ls s.painting.loan in
     let by_table : l.area ≡ area_in y.table l.piece = (lent_all (OfPiece y.table) ls s.painting.loan pieces r.lent).1 in
@@ -414,22 +414,25 @@ placed_row y ls pieces areas s r =
     }
 
 -- the newest stroke over a byte, by numbers
-painted_by : (y : Layout) (ss : List Stroke) (i : ℕ) → AllByRecursion (PlacedSo y) ss → PaintedBy y ss i (newest_over ss i)
-painted_by y [] i h = tt
-painted_by y (s ∷ ss) i h = go (painted_by y ss i h.1) (covers s i) refl
+painted_by : (y : Layout) (ss : List Stroke) (i : ℕ) → All (PlacedSo y) ss → PaintedBy y ss i (newest_over ss i)
+painted_by y [] i h = All-nil (λ k. LiesOver y.table k i → ⊥)
+painted_by y (s ∷ ss) i h = go (painted_by y ss i (All-tail (PlacedSo y) s ss h)) (covers s i) refl
   where
     Free : Stroke → Type 0
     Free k = LiesOver y.table k i → ⊥
 
+    placed : PlacedSo y s
+    placed = All-head (PlacedSo y) s ss h
+
     free : covers s i ≡ false → Free s
     free e o =
-        let at = h.0.place in
+        let at = placed.place in
         let low = o.0 in
         let high = o.1 in
         true≢false (sym (and_from _ _ (le-leb s.place i (omega arith)) (lt-ltb i (s.place + length s.painting.laid) (omega arith))) ∙ e)
 
     more : covers s i ≡ false → (r : Option Painter) → PaintedBy y ss i r → PaintedBy y (s ∷ ss) i r
-    more e None n = (free e, n)
+    more e None n = All-cons Free s ss (free e) n
     more e (Some p) n = record {
       newer = s ∷ n.newer;
       stroke = n.stroke;
@@ -438,7 +441,7 @@ painted_by y (s ∷ ss) i h = go (painted_by y ss i h.1) (covers s i) refl
       loan = n.loan;
       borrower = n.borrower;
       over = n.over;
-      none_newer = (free e, n.none_newer);
+      none_newer = All-cons Free s n.newer (free e) n.none_newer;
       listed = n.listed;
     }
 
@@ -447,7 +450,7 @@ painted_by y (s ∷ ss) i h = go (painted_by y ss i h.1) (covers s i) refl
         let parts = and_parts (leb s.place i) (ltb i (s.place + length s.painting.laid)) e in
         let low : s.place ≤ i = leb-true s.place i parts.0 in
         let high : i < s.place + length s.painting.laid = ltb-true i (s.place + length s.painting.laid) parts.1 in
-        let at : s.place ≡ begin_of y.table s = h.0.place in
+        let at : s.place ≡ begin_of y.table s = placed.place in
         record {
           newer = [];
           stroke = s;
@@ -456,14 +459,14 @@ painted_by y (s ∷ ss) i h = go (painted_by y ss i h.1) (covers s i) refl
           loan = refl;
           borrower = refl;
           over = (omega arith, omega arith);
-          none_newer = tt;
-          listed = h.0.listed;
+          none_newer = All-nil Free;
+          listed = placed.listed;
         }
     go rest false e = more e (newest_over ss i) rest
 
 -- of a run the law has it that the loans are of pieces that exist, and that each stroke lies in a row of its loan's piece
 traced : (y : Layout) (ds : List Deed) (rs : List (Result ℕ Refusal)) (place : ℕ) (r : Option Painter)
-    → (AllByRecursion (OfPiece y.table) (lent y.table (history_of ds rs)) → NewestPainter y.table ds rs place r) → Traced y ds rs place r
+    → (All (OfPiece y.table) (lent y.table (history_of ds rs)) → NewestPainter y.table ds rs place r) → Traced y ds rs place r
 traced y ds rs place r newest = record { run = of_run; placed = placed_in; pieces = newest }
   where
     -- of the answers to a run
@@ -473,14 +476,14 @@ traced y ds rs place r newest = record { run = of_run; placed = placed_in; piece
 
     of_run : (number : ℕ) (file : List ℕ) (k : Stock) → IsRun y.table number file k ds rs → NewestPainter y.table ds rs place r
     of_run number file k is =
-        newest (at_run (λ x. AllByRecursion (OfPiece y.table) (lent y.table (history_of ds x))) number file k is (law_run y number file k ds is.length is.marks is.bytes).pieces)
+        newest (at_run (λ x. All (OfPiece y.table) (lent y.table (history_of ds x))) number file k is (law_run y number file k ds is.length is.marks is.bytes).pieces)
 
-    all_placed : (number : ℕ) (file : List ℕ) (k : Stock) → IsRun y.table number file k ds rs → AllByRecursion (PlacedSo y) (standing y.table file (history_of ds rs))
+    all_placed : (number : ℕ) (file : List ℕ) (k : Stock) → IsRun y.table number file k ds rs → All (PlacedSo y) (standing y.table file (history_of ds rs))
     all_placed number file k is =
         let t : Table = y.table in
         let h : List Event = history_of ds (answers_to (opened_state t number file k) ds) in
         let law = law_run y number file k ds is.length is.marks is.bytes in
-        at_run (λ x. AllByRecursion (PlacedSo y) (standing t file (history_of ds x))) number file k is
+        at_run (λ x. All (PlacedSo y) (standing t file (history_of ds x))) number file k is
         (standing_all (PlacedSo y) t file h
         (All-weaker (InRow (lent t h)) (PlacedSo y) (placed_row y (lent t h) law.pieces law.areas) (ever_laid t file h) law.rows))
 
@@ -493,8 +496,8 @@ traced y ds rs place r newest = record { run = of_run; placed = placed_in; piece
 pub record Walked (t : Table) (cs : List Call) (rs : List (Result ℕ Refusal)) (place k : ℕ) : Type 0 where
   pub calls : k ≤ length cs
   pub answers : k ≤ length rs
-  pub pieces : AllByRecursion (OfPiece t) (lent t (history_of (map deed_of cs) rs)) → AllByRecursion (OfPiece t) (lent t (past_of cs rs k))
-  pub same : AllByRecursion (OfPiece t) (lent t (history_of (map deed_of cs) rs)) → (opening : List ℕ)
+  pub pieces : All (OfPiece t) (lent t (history_of (map deed_of cs) rs)) → All (OfPiece t) (lent t (past_of cs rs k))
+  pub same : All (OfPiece t) (lent t (history_of (map deed_of cs) rs)) → (opening : List ℕ)
       → newest_over (standing t opening (history_of (map deed_of cs) rs)) place
       ≡ newest_over (survivors (λ n. owed n (drop k cs) (drop k rs)) (standing t opening (past_of cs rs k))) place
 
@@ -503,7 +506,7 @@ walk_none t cs rs place k b i j =
     record {
       calls = i;
       answers = j;
-      pieces = λ a. subst (λ (h : List Event). AllByRecursion (OfPiece t) (lent t h)) (sym (past_all cs rs k b)) a;
+      pieces = λ a. subst (λ (h : List Event). All (OfPiece t) (lent t h)) (sym (past_all cs rs k b)) a;
       same = λ a opening.
           ap (λ (h : List Event). newest_over (standing t opening h) place) (sym (past_all cs rs k b))
           ∙ ap (λ (ss : List Stroke). newest_over ss place) (sym (survive_all (λ n. owed n (drop k cs) (drop k rs)) (standing t opening (past_of cs rs k)) (λ n. owed_all n cs rs k b)));
@@ -527,12 +530,12 @@ module _ (t : Table) (cs : List Call) (rs : List (Result ℕ Refusal)) (place j 
   in_answers : j < length rs
   in_answers = omega (arith, w.answers)
 
-  pieces_here : AllByRecursion (OfPiece t) (lent t (history_of (map deed_of cs) rs)) → AllByRecursion (OfPiece t) (lent t (past_of cs rs j))
+  pieces_here : All (OfPiece t) (lent t (history_of (map deed_of cs) rs)) → All (OfPiece t) (lent t (past_of cs rs j))
   pieces_here a =
       pieces_before t (deed_of (get_or cs j no_call)) (get_or rs j no_answer) (past_of cs rs j)
-      (subst (λ (h : List Event). AllByRecursion (OfPiece t) (lent t h)) (past_more cs rs j no_call no_answer in_calls in_answers) (w.pieces a))
+      (subst (λ (h : List Event). All (OfPiece t) (lent t h)) (past_more cs rs j no_call no_answer in_calls in_answers) (w.pieces a))
 
-  here_or_before : AllByRecursion (OfPiece t) (lent t (history_of (map deed_of cs) rs)) → (opening : List ℕ)
+  here_or_before : All (OfPiece t) (lent t (history_of (map deed_of cs) rs)) → (opening : List ℕ)
       → newest_over (standing t opening (history_of (map deed_of cs) rs)) place
       ≡ or_else (painter_at t cs rs j place) (newest_over (survivors (λ n. owed n (drop j cs) (drop j rs)) (standing t opening (past_of cs rs j))) place)
   here_or_before a opening =
@@ -544,7 +547,7 @@ module _ (t : Table) (cs : List Call) (rs : List (Result ℕ Refusal)) (place j 
       (same_owes (λ m. owed_before m (owes m) (deed_of (get_or cs j no_call)) (get_or rs j no_answer)) (λ n. owed n (drop j cs) (drop j rs)) (standing t opening (past_of cs rs j))
       (λ m. sym (owed_more m cs rs j no_call no_answer in_calls in_answers)))
 
-  found_here : (p : Painter) → Some p ≡ painter_at t cs rs j place → AllByRecursion (OfPiece t) (lent t (history_of (map deed_of cs) rs))
+  found_here : (p : Painter) → Some p ≡ painter_at t cs rs j place → All (OfPiece t) (lent t (history_of (map deed_of cs) rs))
       → NewestPainter t (map deed_of cs) rs place (Some p)
   found_here p e a opening =
       sym (here_or_before a opening
