@@ -13,8 +13,8 @@ use Rattle.loans.specs.Lists.{less_all}
 use Rattle.loans.specs.Books.{no_loan}
 use Rattle.loans.specs.Jobs.{Book, book_of}
 use Rattle.loans.specs.Stocks.{Stock, stock_of, is_number, is_out, the_loan}
-use Rattle.loans.specs.Strokes.{State, counted_loan, is_other_length}
-use Rattle.loans.specs.Ending.{keep_refusal, kept_book, cancel_refusal, cancelled}
+use Rattle.loans.specs.Strokes.{State, counted_loan, is_other_length, painted_stock, undone_stock}
+use Rattle.loans.specs.Ending.{keep_refusal, kept_book, cancel_refusal, cancelled, stock_without}
 use Rattle.loans.specs.Rules.{Deed, call_refusal, carried_out, left, after}
 use Rattle.loans.specs.Rules.Deed.{lend, paint, undo, keep, cancel}
 use Rattle.loans.specs.Calls.{Called}
@@ -55,10 +55,10 @@ gone_carried n s g (lend p who) =
       not_out = some_of_push (is_number n) s.book.outs _ (ne_eqb n (s.book.granted + 1) (λ e. omega (arith, g.given))) ∙ g.not_out;
       given = omega (arith, g.given);
     }
-gone_carried n s g (paint p) = record { not_out = counted_out n _ s.book.outs ∙ g.not_out; given = g.given }
-gone_carried n s g (undo m who) = record { not_out = counted_out n _ s.book.outs ∙ g.not_out; given = g.given }
-gone_carried n s g (keep m) = record { not_out = without_out n _ s.book.outs m g.not_out; given = g.given }
-gone_carried n s g (cancel m) = record { not_out = without_out n _ s.book.outs m g.not_out; given = g.given }
+gone_carried n s g (paint p) = record { not_out = counted_out n (painted_stock s p).marks s.book.outs ∙ g.not_out; given = g.given }
+gone_carried n s g (undo m who) = record { not_out = counted_out n (undone_stock s.stock m).marks s.book.outs ∙ g.not_out; given = g.given }
+gone_carried n s g (keep m) = record { not_out = without_out n (stock_without s.stock m).marks s.book.outs m g.not_out; given = g.given }
+gone_carried n s g (cancel m) = record { not_out = without_out n (stock_without s.stock m).marks s.book.outs m g.not_out; given = g.given }
 
 gone_after : (n : ℕ) (s : State) → Gone n s.book → (d : Deed) → Gone n (after s d).book
 gone_after n s g d = left_either (λ (x : State). Gone n x.book) (call_refusal s d) s (carried_out s d) g (gone_carried n s g d)
@@ -116,10 +116,11 @@ ended_out : (n : ℕ) (ms : List Mark) (ls : List Loan) → is_out (map (counted
 ended_out n ms ls = counted_out n ms (less_all (is_number n) ls) ∙ some_of_none (is_number n) (less_all (is_number n) ls) (none_less_all (is_number n) ls)
 
 pub kept_handed_in : (b : Book) (k : Stock) (n : ℕ) → NumbersGiven b → is_out b.outs n ≡ true → HandedIn n (kept_book b k n)
-kept_handed_in b k n g out = handed_in (kept_book b k n) n (ended_out n _ b.outs) (given_out b n g out)
+kept_handed_in b k n g out = handed_in (kept_book b k n) n (ended_out n (stock_without k n).marks b.outs) (given_out b n g out)
 
 pub cancelled_handed_in : (s : State) (n : ℕ) → NumbersGiven s.book → is_out s.book.outs n ≡ true → HandedIn n (cancelled s n).book
-cancelled_handed_in s n g out = handed_in (cancelled s n).book n (ended_out n _ s.book.outs) (given_out s.book n g out)
+cancelled_handed_in s n g out =
+    handed_in (cancelled s n).book n (ended_out n (stock_without s.stock n).marks s.book.outs) (given_out s.book n g out)
 
 -- so it is of every job
 pub job_given : (j : Job) → NumbersGiven (book_of j)

@@ -1,4 +1,5 @@
 mod Counting
+mod Marks
 mod Slots
 mod Tallying
 mod Owning

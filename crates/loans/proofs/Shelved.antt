@@ -5,7 +5,7 @@ use lib.Seq.{paste}
 use Rattle.std.specs.List.{list_any, flat_map, All}
 use Rattle.std.proofs.lemmas.List.{reverse-append, length-append, take_at, drop_at, map_push, flat_map_more}
 use Rattle.std.proofs.lemmas.List.Elements.{All-head, All-tail, All-weaker, All-filter, filter_passes, filter-append}
-use Rattle.std.proofs.lemmas.Bool.{and_right}
+use Rattle.std.proofs.lemmas.Bool.{and_right, cond-true, cond-false}
 use Rattle.loans.specs.declared.ledger.Loan.{Loan}
 use Rattle.loans.specs.declared.mark.Mark.{Mark}
 use Rattle.loans.specs.Lists.{less_first, less_all}
@@ -14,6 +14,7 @@ use Rattle.loans.specs.Strokes.{stock_with, marks_less, bytes_less, file_back, u
 use Rattle.loans.specs.Ending.{bytes_of, restored}
 use Rattle.loans.specs.History.{Stroke, stroke_of, stroke_length, byte_under, bytes_under, undoable, mark_of, shelved}
 use Rattle.loans.proofs.Listed.{all_right, all_reverse, None, Split, split, none_head, none_tail, some_of_none, some_of_mid, some_of_map, less_all_none, less_all_first, all_less_first, split_less}
+use Rattle.loans.proofs.Marks.{marks_cons, lengths_cons}
 use Rattle.loans.proofs.Underneath.{pasted, between_values, covers_from, covers_not}
 use Rattle.loans.proofs.Soundness.{Sized, Sound, out_of, sound_less, undone}
 
@@ -87,16 +88,20 @@ module _ (n : ℕ) where
 
   pub count_none : (ss : List Stroke) → None (stroke_of n) ss → marks_of n (map mark_of ss) ≡ 0
   count_none [] h = refl
-  count_none (s ∷ ss) h = rw (none_head (stroke_of n) s ss h) (count_none ss (none_tail (stroke_of n) s ss h))
+  count_none (s ∷ ss) h =
+      marks_cons n (mark_of s) (map mark_of ss) ∙ cond-false (stroke_of n s) _ _ (none_head (stroke_of n) s ss h)
+      ∙ count_none ss (none_tail (stroke_of n) s ss h)
 
   pub count_mid : (older : List Stroke) (k : Stroke) (newer : List Stroke) → stroke_of n k ≡ true → marks_of n (map mark_of (older ++ k ∷ newer)) ≡ suc (marks_of n (map mark_of (older ++ newer)))
-  count_mid [] k newer e = rw e
+  count_mid [] k newer e = marks_cons n (mark_of k) (map mark_of newer) ∙ cond-true (stroke_of n k) _ _ e
   count_mid (s ∷ older) k newer e =
-      elim (stroke_of n s) as (λ b. cond b (suc (marks_of n (map mark_of (older ++ k ∷ newer)))) (marks_of n (map mark_of (older ++ k ∷ newer)))
+      marks_cons n (mark_of s) (map mark_of (older ++ k ∷ newer))
+      ∙ elim (stroke_of n s) as (λ b. cond b (suc (marks_of n (map mark_of (older ++ k ∷ newer)))) (marks_of n (map mark_of (older ++ k ∷ newer)))
       ≡ suc (cond b (suc (marks_of n (map mark_of (older ++ newer)))) (marks_of n (map mark_of (older ++ newer))))) [
         | true ↦ ap suc (count_mid older k newer e)
         | false ↦ count_mid older k newer e
       ]
+      ∙ ap suc (sym (marks_cons n (mark_of s) (map mark_of (older ++ newer))))
 
 -- the kept bytes of some of the marks
 pub bytes_of_is : (p : Mark → Bool) (ss : List Stroke) → All Even ss → bytes_of p (map mark_of ss) (all_below ss) ≡ all_below (filter (λ s. p (mark_of s)) ss)
@@ -113,7 +118,7 @@ bytes_of_is p (s ∷ ss) z =
 pub lengths_is : (ss : List Stroke) → All Even ss → lengths (map mark_of ss) ≡ length (all_below ss)
 lengths_is [] z = refl
 lengths_is (s ∷ ss) z =
-    omega (arith, lengths_is ss (All-tail Even s ss z), length-append s.below (all_below ss), All-head Even s ss z)
+    omega (arith, lengths_cons (mark_of s) (map mark_of ss), lengths_is ss (All-tail Even s ss z), length-append s.below (all_below ss), All-head Even s ss z)
 
 -- no more marks, and no more kept bytes
 abbrev pub Fewer : List Stroke → List Stroke → Type 0

@@ -20,7 +20,8 @@ use Rattle.loans.proofs.Counting.{out_inside}
 use Rattle.loans.proofs.Recounting.{counted_at}
 use Rattle.loans.proofs.Allowed.{ours, may_undo}
 use Rattle.loans.proofs.Painted.{recounts}
-use Rattle.loans.proofs.Newest.{lengths_append, parts, undone_stock_lem, undone_file}
+use Rattle.loans.proofs.Marks.{marks_cons, marks_append, lengths_cons, lengths_append}
+use Rattle.loans.proofs.Newest.{parts, undone_stock_lem, undone_file}
 
 pub sound_at : (ls : List Loan) (ms : List Mark) → all_sound ls ms ≡ true → (k : ℕ) → k < length ms → is_sound ls (get_or ms k no_mark) ≡ true
 sound_at ls [] h k f = absurd (omega arith)
@@ -36,15 +37,6 @@ sound_end ls m e =
     let lies = (and_parts (is_out ls m.loan) (lies_in a m) out).1 in
     leb-true (m.place + m.length) (a.place + a.length) (and_parts (leb a.place m.place) (leb (m.place + m.length) (a.place + a.length)) lies).1
 
-pub marks_append : (n : ℕ) (ms ns : List Mark) → marks_of n (ms ++ ns) ≡ marks_of n ms + marks_of n ns
-marks_append n [] ns = omega arith
-marks_append n (m ∷ ms) ns = go (of_loan n m) (marks_append n ms ns)
-  where
-    go : (b : Bool) → marks_of n (ms ++ ns) ≡ marks_of n ms + marks_of n ns
-        → cond b (suc (marks_of n (ms ++ ns))) (marks_of n (ms ++ ns)) ≡ cond b (suc (marks_of n ms)) (marks_of n ms) + marks_of n ns
-    go true e = omega (arith, e)
-    go false e = e
-
 -- how many marks of a loan stand with and without the one at a position
 module _ (st : Stock) (n k begin : ℕ) (at : NewestAt st.marks n k begin) (x : ℕ) where
   abbrev front : List Mark
@@ -55,6 +47,7 @@ module _ (st : Stock) (n k begin : ℕ) (at : NewestAt st.marks n k begin) (x : 
 
   count_with : marks_of x st.marks ≡ marks_of x front + cond (of_loan x (get_or st.marks k no_mark)) (suc (marks_of x behind)) (marks_of x behind)
   count_with = ap (marks_of x) (parts n k begin st at) ∙ marks_append x front (get_or st.marks k no_mark ∷ behind)
+      ∙ ap (λ y. marks_of x front + y) (marks_cons x (get_or st.marks k no_mark) behind)
 
   count_without : marks_of x (stock_less st k begin).marks ≡ marks_of x front + marks_of x behind
   count_without = marks_append x front behind
@@ -84,6 +77,7 @@ undo_at s f v n who k position begin held newest =
     let is : the_loan (outs s.ledger) m.loan ≡ get_or (outs s.ledger) k no_loan = ap (the_loan (outs s.ledger)) (sym of-n) ∙ held.loan.found in
     let in-file = out_inside s.layout.table.length s.ledger s.balanced s.inside k held.loan.inside _ is in
     let all = ap lengths (parts n position begin st newest) ∙ lengths_append (take position (contents v.marks)) (m ∷ drop (position + 1) (contents v.marks)) in
+    let this = lengths_cons m (drop (position + 1) (contents v.marks)) in
     record {
       none = held.next _ ∙ cond-false (eqb (marks_of n (contents v.marks)) 0) _ _ (ne_eqb _ _ (λ e. omega arith));
       loan = held.loan;

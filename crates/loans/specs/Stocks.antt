@@ -1,5 +1,5 @@
 -- What stands on a job's shelves, and when the shelves are the job's.
-use Rattle.std.specs.Prelude.{◌≡◌, ℕ, suc, ◌+◌, Bool, true, cond, ◌&&◌, List, [], ◌∷◌, length, ◌==◌, nat_le}
+use Rattle.std.specs.Prelude.{◌≡◌, ℕ, ◌+◌, Bool, true, ◌&&◌, List, length, count_by, sum_by, ◌==◌, nat_le}
 use Rattle.std.specs.List.{list_any, list_all}
 use Rattle.shelf.specs.Model.{contents, capacity_of}
 use Rattle.dds.specs.declared.area.Area.{Area}
@@ -45,13 +45,11 @@ of_loan n m = n == m.loan
 
 -- how many marks a loan has
 abbrev pub marks_of : ℕ → List Mark → ℕ
-marks_of n [] = 0
-marks_of n (m ∷ ms) = cond (of_loan n m) (suc (marks_of n ms)) (marks_of n ms)
+marks_of n ms = count_by (of_loan n) ms
 
 -- how many bytes the marks cover together
 abbrev pub lengths : List Mark → ℕ
-lengths [] = 0
-lengths (m ∷ ms) = m.length + lengths ms
+lengths ms = sum_by (λ (m : Mark). m.length) ms
 
 -- a mark does not reach outside an area
 abbrev pub lies_in : Area → Mark → Bool
