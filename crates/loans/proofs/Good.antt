@@ -1,6 +1,7 @@
 -- The invariant of a history, over every loan ever granted, the loans out and the strokes that stand; and that each call keeps it.
-use Rattle.std.proofs.Common.{◌≡◌, ℕ, suc, ◌+◌, ◌*◌, ◌<◌, ◌≤◌, true, false, cond, not, eqb, ◌⊎◌, List, [], ◌∷◌, ◌++◌, reverse, length, sym, refl, ap, ◌∙◌, subst, inl, inr, mul-le-mul_right, suc-mul, mul_comm, arith, ◌||◌}
-use Rattle.std.specs.List.{All}
+use Rattle.std.proofs.Common.{◌≡◌, ℕ, suc, Some, ◌+◌, ◌*◌, ◌<◌, ◌≤◌, true, false, cond, not, eqb, ◌⊎◌, List, [], ◌∷◌, ◌++◌, reverse, length, sym, refl, ap, ◌∙◌, subst, inl, inr, mul-le-mul_right, suc-mul, mul_comm, arith, ◌||◌}
+use Rattle.std.specs.List.{All, find}
+use Rattle.std.specs.Option.{unwrap_or}
 use Rattle.std.proofs.lemmas.List.Elements.{All-nil, All-cons, All-weaker, All-push, All-filter}
 use Rattle.std.proofs.lemmas.List.{length-append, length_push, flat_map_more}
 use Rattle.std.proofs.lemmas.List.FromFn.{length-map-range_with_len}
@@ -11,6 +12,7 @@ use Rattle.dds.specs.declared.table.Table.{Table}
 use Rattle.dds.specs.Places.{area_in, exists_in}
 use Rattle.loans.specs.declared.ledger.Loan.{Loan}
 use Rattle.loans.specs.Lists.{less_first, less_all}
+use Rattle.loans.specs.Books.{no_loan}
 use Rattle.loans.specs.Lending.{granting, piece_is_out}
 use Rattle.loans.specs.Stocks.{is_number, is_out, the_loan}
 use Rattle.loans.specs.Strokes.{Painting}
@@ -100,7 +102,7 @@ module _ (ls : List Loan) (numbers : NumberedFromOne ls) (new : Loan) (fresh : n
   other m h = let a = numbered_known ls m numbers h in ne_eqb m new.number (λ e. omega arith)
 
   loan_same : (m : ℕ) → is_out ls m ≡ true → the_loan (new ∷ ls) m ≡ the_loan ls m
-  loan_same m h = ap (λ b. cond b new (the_loan ls m)) (other m h)
+  loan_same m h = ap (λ b. unwrap_or (cond b (Some new) (find (is_number m) ls)) no_loan) (other m h)
 
   known_old : (m : ℕ) → is_out ls m ≡ true → is_out (new ∷ ls) m ≡ true
   known_old m h = elim (eqb m new.number) as (λ b. (b || is_out ls m) ≡ true) [ true ↦ refl | false ↦ h ]
@@ -155,7 +157,7 @@ module _ (t : Table) (mm mb : ℕ) (opening : List ℕ) where
       lent_new : Lent t (new ∷ ls) new
       lent_new =
           let self = eq-eqb new.number new.number refl in
-          record { known = rw self; of_piece = (there, refl); traced = ap (λ b. cond b new (the_loan ls new.number)) self }
+          record { known = rw self; of_piece = (there, refl); traced = ap (λ b. unwrap_or (cond b (Some new) (find (is_number new.number) ls)) no_loan) self }
 
       laid_old : (s : Stroke) → Laid opening ls s → Laid opening (new ∷ ls) s
       laid_old s r =

@@ -1,10 +1,11 @@
 -- Lists, tests and members.
-use Rattle.std.proofs.Common.{◌≡◌, ℕ, zero, suc, ◌<◌, Bool, true, false, cond, not, ◌&&◌, ◌⊎◌, List, [], ◌∷◌, ◌++◌, map, reverse, length, get_or, filter, arith, sym, refl, ap, ◌∙◌, inl, inr, append-nil, ◌||◌}
+use Rattle.std.proofs.Common.{◌≡◌, ℕ, zero, suc, ◌<◌, Some, Bool, true, false, cond, not, ◌&&◌, ◌⊎◌, List, [], ◌∷◌, ◌++◌, map, reverse, length, get_or, filter, arith, sym, refl, ap, ◌∙◌, inl, inr, append-nil, ◌||◌}
 use mathlib.Core.List.{reverse-cons}
-use Rattle.std.specs.List.{list_any, All, Contains}
+use Rattle.std.specs.List.{list_any, All, Contains, find}
+use Rattle.std.specs.Option.{unwrap_or}
 use Rattle.std.proofs.lemmas.List.Elements.{All-nil, All-cons, All-head, All-tail, All-push, filter-append}
 use Rattle.std.proofs.lemmas.Bool.{false≢true}
-use Rattle.loans.specs.Lists.{first_or, less_first, less_all}
+use Rattle.loans.specs.Lists.{less_first, less_all}
 
 module _ {A : Type 0} where
   -- a is one of a list
@@ -73,14 +74,14 @@ module _ {A : Type 0} where
     some_of_mid [] k ys e = rw e
     some_of_mid (x ∷ xs) k ys e = elim (p x) as (λ b. (b || list_any p (xs ++ k ∷ ys)) ≡ true) [ true ↦ refl | false ↦ some_of_mid xs k ys e ]
 
-    pub first_among : (d : A) (xs : List A) → list_any p xs ≡ true → Among xs (first_or d p xs) × (p (first_or d p xs) ≡ true)
+    pub first_among : (d : A) (xs : List A) → list_any p xs ≡ true → Among xs (unwrap_or (find p xs) d) × (p (unwrap_or (find p xs) d) ≡ true)
     first_among d [] h = absurd (false≢true h)
     first_among d (x ∷ xs) h = go (p x) refl h (first_among d xs)
       where
         Found : List A → A → Type 0
         Found ys y = Among ys y × (p y ≡ true)
 
-        go : (b : Bool) → p x ≡ b → (b || list_any p xs) ≡ true → (list_any p xs ≡ true → Found xs (first_or d p xs)) → Found (x ∷ xs) (cond b x (first_or d p xs))
+        go : (b : Bool) → p x ≡ b → (b || list_any p xs) ≡ true → (list_any p xs ≡ true → Found xs (unwrap_or (find p xs) d)) → Found (x ∷ xs) (unwrap_or (cond b (Some x) (find p xs)) d)
         go true e h' later = (inl refl, e)
         go false e h' later = let r = later h' in (inr r.0, r.1)
 

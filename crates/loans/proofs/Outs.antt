@@ -1,6 +1,7 @@
 -- Loans: which are out after one is granted or ends, which strokes of theirs the shelves hold then, and a book's counts.
-use Rattle.std.proofs.Common.{◌≡◌, ℕ, suc, ◌+◌, ◌<◌, ◌≤◌, Bool, true, false, cond, not, ◌&&◌, ◌||◌, eqb, ◌⊎◌, List, [], ◌∷◌, ◌++◌, map, reverse, length, filter, sym, refl, ap, ◌∙◌, subst, inl, inr, arith}
-use Rattle.std.specs.List.{All}
+use Rattle.std.proofs.Common.{◌≡◌, ℕ, suc, Some, ◌+◌, ◌<◌, ◌≤◌, Bool, true, false, cond, not, ◌&&◌, ◌||◌, eqb, ◌≢◌, ◌⊎◌, List, [], ◌∷◌, ◌++◌, map, reverse, length, filter, sym, refl, ap, ◌∙◌, subst, inl, inr, arith}
+use Rattle.std.specs.List.{All, find}
+use Rattle.std.specs.Option.{unwrap_or}
 use Rattle.std.proofs.lemmas.List.Elements.{All-nil, All-head, All-tail, All-weaker, All-push, All-filter}
 use Rattle.std.proofs.lemmas.Bool.{eqb-true, eqb-false, eq-eqb, ne_eqb, and_right, and_from, or_parts, cases_Bool, both_ways, false≢true}
 use Rattle.dds.specs.declared.piece.Piece.{Piece}
@@ -56,6 +57,22 @@ and_not : (a b : Bool) → (not a && (b && not a)) ≡ (b && not a)
 and_not true true = refl
 and_not true false = refl
 and_not false b = refl
+
+-- the loan of another number stays what it was
+pub loan_less : (ls : List Loan) (n m : ℕ) → m ≢ n → the_loan (less_all (is_number n) ls) m ≡ the_loan ls m
+loan_less [] n m ne = refl
+loan_less (l ∷ ls) n m ne = go (eqb n l.number) refl (loan_less ls n m ne)
+  where
+    first : Bool → List Loan → Loan
+    first b rest = unwrap_or (cond b (Some l) (find (is_number m) rest)) no_loan
+
+    go : (b : Bool) → eqb n l.number ≡ b → the_loan (less_all (is_number n) ls) m ≡ the_loan ls m
+        → the_loan (cond (not b) (l ∷ less_all (is_number n) ls) (less_all (is_number n) ls)) m ≡ first (is_number m l) ls
+    go true e r =
+        let other : m ≢ l.number = λ f. ne (f ∙ sym (eqb-true n l.number e)) in
+        r ∙ sym (ap (λ b. first b ls) (ne_eqb m l.number other))
+    go false e r =
+        elim (is_number m l) as (λ b. first b (less_all (is_number n) ls) ≡ first b ls) [ true ↦ refl | false ↦ r ]
 
 -- the strokes on the shelves once the loan n has ended, kept or cancelled
 pub undoable_kept : (ls : List Loan) (n : ℕ) (ss : List Stroke) → undoable (less_all (is_number n) ls) ss ≡ less_all (stroke_of n) (undoable ls ss)
@@ -121,7 +138,8 @@ module _ (ms : List Mark) where
   pub loan_counted : {X : Type 0} (f : Loan → X) → ((l : Loan) → f (counted_loan ms l) ≡ f l) → (ls : List Loan) (n : ℕ) → f (the_loan (map (counted_loan ms) ls) n) ≡ f (the_loan ls n)
   loan_counted f h [] n = refl
   loan_counted f h (l ∷ ls) n =
-      elim (is_number n l) as (λ b. f (cond b (counted_loan ms l) (the_loan (map (counted_loan ms) ls) n)) ≡ f (cond b l (the_loan ls n))) [ true ↦ h l | false ↦ loan_counted f h ls n ]
+      elim (is_number n l) as (λ b. f (unwrap_or (cond b (Some (counted_loan ms l)) (find (is_number n) (map (counted_loan ms) ls))) no_loan)
+      ≡ f (unwrap_or (cond b (Some l) (find (is_number n) ls)) no_loan)) [ true ↦ h l | false ↦ loan_counted f h ls n ]
 
   pub piece_counted : (ls : List Loan) (p : Piece) → piece_is_out (map (counted_loan ms) ls) p ≡ piece_is_out ls p
   piece_counted [] p = refl

@@ -1,5 +1,7 @@
 -- What an undo that is carried out takes back and leaves.
-use Rattle.std.proofs.Common.{◌≡◌, ℕ, zero, suc, ◌+◌, ◌-◌, ◌<◌, ◌≤◌, Bool, true, false, cond, ◌&&◌, eqb, leb, ◌≢◌, List, [], ◌∷◌, ◌++◌, length, get_or, take, drop, sym, refl, ap, ◌∙◌, arith, ◌||◌}
+use Rattle.std.proofs.Common.{◌≡◌, ℕ, zero, suc, ◌+◌, ◌-◌, ◌<◌, ◌≤◌, Bool, true, false, cond, ◌&&◌, eqb, leb, ◌≢◌, Some, List, [], ◌∷◌, ◌++◌, length, get_or, take, drop, sym, refl, ap, ◌∙◌, arith, ◌||◌}
+use Rattle.std.specs.List.{find}
+use Rattle.std.specs.Option.{unwrap_or}
 use Rattle.std.proofs.lemmas.Bool.{false≢true, cond-true, cond-false, and_parts, leb-true, eqb-true, ne_eqb}
 use Rattle.shelf.specs.Model.{contents}
 use Rattle.dds.specs.declared.area.Area.{Area}
@@ -9,7 +11,7 @@ use Rattle.loans.specs.declared.mark.Mark.{Mark}
 use Rattle.loans.specs.declared.mark.Shelves.{Shelves}
 use Rattle.loans.specs.Books.{no_loan, outs}
 use Rattle.loans.specs.Jobs.{book_of}
-use Rattle.loans.specs.Stocks.{Stock, stock_of, is_out, the_loan, of_loan, marks_of, lengths, are_ours, is_sound, all_sound, lies_in}
+use Rattle.loans.specs.Stocks.{Stock, stock_of, is_number, is_out, the_loan, of_loan, marks_of, lengths, are_ours, is_sound, all_sound, lies_in}
 use Rattle.loans.specs.Strokes.{State, state_of, HeldAt, undone_stock, recounted}
 use Rattle.loans.specs.Taking.{no_mark, NewestAt, file_less, stock_less, UndoAt}
 use Rattle.loans.specs.Ending.{InFile}
@@ -140,7 +142,7 @@ out_somewhere [] n h = absurd (false≢true h)
 out_somewhere (l ∷ ls) n h = go (eqb n l.number) h (out_somewhere ls n)
   where
     go : (b : Bool) → (b || is_out ls n) ≡ true → (is_out ls n ≡ true → (j : ℕ) × ((j < length ls) × (the_loan ls n ≡ get_or ls j no_loan)))
-        → (j : ℕ) × ((j < suc (length ls)) × (cond b l (the_loan ls n) ≡ get_or (l ∷ ls) j no_loan))
+        → (j : ℕ) × ((j < suc (length ls)) × (unwrap_or (cond b (Some l) (find (is_number n) ls)) no_loan ≡ get_or (l ∷ ls) j no_loan))
     go true e later = (0, (omega arith, refl))
     go false e later = let r = later e in (suc r.0, (omega (arith, r.1.0), r.1.1))
 

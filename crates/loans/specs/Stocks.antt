@@ -1,12 +1,12 @@
 -- What stands on a job's shelves, and when the shelves are the job's.
 use Rattle.std.specs.Prelude.{◌≡◌, ℕ, ◌+◌, Bool, true, ◌&&◌, List, length, count_by, sum_by, ◌==◌, nat_le}
-use Rattle.std.specs.List.{list_any, list_all}
+use Rattle.std.specs.List.{list_any, list_all, find}
+use Rattle.std.specs.Option.{unwrap_or}
 use Rattle.shelf.specs.Model.{contents, capacity_of}
 use Rattle.dds.specs.declared.area.Area.{Area}
 use Rattle.loans.specs.declared.ledger.Loan.{Loan}
 use Rattle.loans.specs.declared.mark.Mark.{Mark}
 use Rattle.loans.specs.declared.mark.Shelves.{Shelves}
-use Rattle.loans.specs.Lists.{first_or}
 use Rattle.loans.specs.Books.{no_loan}
 use Rattle.loans.specs.Jobs.{Book}
 
@@ -37,7 +37,7 @@ is_out ls n = list_any (is_number n) ls
 
 -- the first of the loans that has the number
 abbrev pub the_loan : List Loan → ℕ → Loan
-the_loan ls n = first_or no_loan (is_number n) ls
+the_loan ls n = unwrap_or (find (is_number n) ls) no_loan
 
 -- the mark is of a stroke of that loan
 abbrev pub of_loan : ℕ → Mark → Bool

@@ -1,6 +1,7 @@
 -- Which strokes stand, read from the newest call to the oldest.
 use Rattle.std.proofs.Common.{◌≡◌, ℕ, zero, suc, ◌+◌, ◌-◌, ◌*◌, ◌<◌, ◌≤◌, min, Bool, true, false, cond, not, ◌&&◌, eqb, leb, ltb, ◌⊎◌, List, [], ◌∷◌, ◌++◌, map, length, get_or, take, drop, Some, None, Ok, Err, Option, Result, sym, refl, ap, ◌∙◌, subst, inl, inr, ⊎_elim, arith, ◌||◌}
-use Rattle.std.specs.List.{list_any, All, fold, zip}
+use Rattle.std.specs.List.{list_any, All, find, fold, zip}
+use Rattle.std.specs.Option.{unwrap_or}
 use Rattle.std.proofs.lemmas.List.Elements.{All-nil, All-cons, All-head, All-tail, All-weaker}
 use Rattle.std.proofs.lemmas.List.{drop_more, at_drop_all}
 use Rattle.std.proofs.lemmas.List.Sums.{fold-append}
@@ -14,7 +15,7 @@ use Rattle.dds.specs.Places.{exists_in, area_in, AreaOf}
 use Rattle.loans.specs.declared.call.Call.{Call}
 use Rattle.loans.specs.declared.ledger.Loan.{Loan}
 use Rattle.painters.specs.declared.Painter.{Painter}
-use Rattle.loans.specs.Lists.{first_or, less_first, less_all}
+use Rattle.loans.specs.Lists.{less_first, less_all}
 use Rattle.loans.specs.Books.{no_loan}
 use Rattle.loans.specs.Stocks.{Stock, is_number, is_out, the_loan}
 use Rattle.loans.specs.Strokes.{stroke_place}
@@ -25,7 +26,7 @@ use Rattle.loans.specs.Lending.{granting}
 use Rattle.loans.specs.History.{Event, Stroke, written_down, history_of, lent, out_in, stroke_of, reach_over, covers, laying, standing, ever_laid}
 use Rattle.loans.specs.Law.{OfPiece, OfListed, InRow}
 use Rattle.painters.specs.Tracing.{newest_over, paid_off, owing_more, owes_nothing, owed_before, owed, unless_out, piece_after, piece_out, area_for, painter_by, no_call, no_answer, past_of, painter_at, IsNewest, NewestPainter, begin_of, LiesOver, PaintedBy, IsRun, Traced}
-use Rattle.loans.proofs.Outs.{out_less}
+use Rattle.loans.proofs.Outs.{out_less, loan_less}
 use Rattle.loans.proofs.Searches.{some_append, first_none}
 use Rattle.loans.proofs.Runs.{law_run, standing_all, lent_all}
 
@@ -153,21 +154,11 @@ abbrev PieceFound : Table → ℕ → List Loan → Option Piece → Type 0
 PieceFound t n ls None = is_out ls n ≡ false
 PieceFound t n ls (Some p) = OutAs t n p ls
 
-first_append : {A : Type 0} (d : A) (p : A → Bool) (xs ys : List A) → first_or d p (xs ++ ys) ≡ cond (list_any p xs) (first_or d p xs) (first_or d p ys)
+first_append : {A : Type 0} (d : A) (p : A → Bool) (xs ys : List A) → unwrap_or (find p (xs ++ ys)) d ≡ cond (list_any p xs) (unwrap_or (find p xs) d) (unwrap_or (find p ys) d)
 first_append d p [] ys = refl
 first_append d p (x ∷ xs) ys =
-    elim (p x) as (λ b. cond b x (first_or d p (xs ++ ys)) ≡ cond (b || list_any p xs) (cond b x (first_or d p xs)) (first_or d p ys)) [ true ↦ refl | false ↦ first_append d p xs ys ]
-
-loan_less : (ls : List Loan) (m n : ℕ) → eqb m n ≡ false → the_loan (less_all (is_number m) ls) n ≡ the_loan ls n
-loan_less [] m n ne = refl
-loan_less (l ∷ ls) m n ne = go (eqb m l.number) refl (loan_less ls m n ne)
-  where
-    go : (b : Bool) → eqb m l.number ≡ b → the_loan (less_all (is_number m) ls) n ≡ the_loan ls n
-        → the_loan (cond (not b) (l ∷ less_all (is_number m) ls) (less_all (is_number m) ls)) n ≡ cond (eqb n l.number) l (the_loan ls n)
-    go true e rest =
-        let other : eqb n l.number ≡ false = ne_eqb n l.number (λ f. true≢false (sym (eq-eqb m n (eqb-true m l.number e ∙ sym f)) ∙ ne)) in
-        rest ∙ sym (cond-false (eqb n l.number) l (the_loan ls n) other)
-    go false e rest = ap (λ (x : Loan). cond (eqb n l.number) l x) rest
+    elim (p x) as (λ b. unwrap_or (cond b (Some x) (find p (xs ++ ys))) d
+    ≡ cond (b || list_any p xs) (unwrap_or (cond b (Some x) (find p xs)) d) (unwrap_or (find p ys) d)) [ true ↦ refl | false ↦ first_append d p xs ys ]
 
 found_lent : (t : Table) (n : ℕ) (ls : List Loan) (o : Option Piece) (x : ℕ) (p : Piece) (who : ℕ) → exists_in t p ≡ true → PieceFound t n ls o
     → PieceFound t n (ls ++ granting x p who (area_in t p) ∷ []) (unless_out o (eqb n x) p)
@@ -186,7 +177,10 @@ found_lent t n ls None x p who exists f = go (eqb n x) refl
     go true e =
         record {
           out = some_append (is_number n) ls new ∙ cond-false _ _ _ f ∙ ap (λ b. b || false) e;
-          area = ap (λ (l : Loan). l.area) (first_append no_loan (is_number n) ls new ∙ cond-false _ _ _ f ∙ cond-true _ _ _ e);
+          area =
+              ap (λ (l : Loan). l.area)
+              (first_append no_loan (is_number n) ls new ∙ cond-false _ _ _ f
+              ∙ ap (λ b. unwrap_or (cond b (Some (granting x p who (area_in t p))) None) no_loan) e);
           exists = exists;
         }
     go false e = some_append (is_number n) ls new ∙ cond-false _ _ _ f ∙ ap (λ b. b || false) e
@@ -200,7 +194,7 @@ found_ended t n ls o m f = go (eqb m n) refl o f
     go false e (Some p) g =
         record {
           out = out_less ls m n ∙ rw (g.out, e) refl;
-          area = ap (λ (l : Loan). l.area) (loan_less ls m n e) ∙ g.area;
+          area = ap (λ (l : Loan). l.area) (loan_less ls m n (λ f. true≢false (sym (eq-eqb m n (sym f)) ∙ e))) ∙ g.area;
           exists = g.exists;
         }
 
