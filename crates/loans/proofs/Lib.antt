@@ -17,7 +17,7 @@ mod Shelved
 pub mod Outs
 mod Good
 mod Ours
-mod Homely
+mod TakenAsOwn
 mod Steps
 pub mod Runs
 mod Painted

@@ -23,7 +23,7 @@ use Rattle.loans.proofs.Listed.{all_of, all_less_first, first_among, all_among}
 use Rattle.loans.proofs.Lawful.{Lawful, lawful, listed_area}
 use Rattle.loans.proofs.Good.{good_none, outs_apart}
 use Rattle.loans.proofs.Ours.{told_ours, told_same, told_length}
-use Rattle.loans.proofs.Homely.{homely, homely_answer}
+use Rattle.loans.proofs.TakenAsOwn.{not_anothers, own_answer}
 use Rattle.loans.proofs.Steps.{Fine, Next, step_lend, step_paint, step_undo, step_keep, step_cancel}
 
 -- loans that are counted by marks count them
@@ -65,8 +65,8 @@ module _ (y : Layout) (number mm mb : ℕ) (opening : List ℕ) (lawful : Lawful
 
   taken_as_own : (h : List Event) → FineIn h → (d : Deed) → TakenAsOwn (record { call = d; answer = answer_to (here h) d })
   taken_as_own h f d =
-      homely_answer (call_refusal (here h) d) _
-      (homely (here h) (told_same t number mm mb opening (lent t h) (out_in t h) (keeps_in h) (cancels_in h) (standing t opening h) same) (here_ours h f) d)
+      own_answer (call_refusal (here h) d) _
+      (not_anothers (here h) (told_same t number mm mb opening (lent t h) (out_in t h) (keeps_in h) (cancels_in h) (standing t opening h) same) (here_ours h f) d)
 
   -- what holds after a history
   record Stands (s : State) (h : List Event) : Type 0 where
