@@ -1,5 +1,5 @@
 -- A refusal's number has at most two digits.
-use Rattle.std.proofs.Common.{ℕ, ◌<◌, arith, rules, tests}
+use Rattle.std.proofs.Common.{◌<◌, rules, tests}
 use Rattle.refusal.specs.declared.Refusal.{Refusal}
 use Rattle.refusal.specs.Numbers.{number_of}
 
