@@ -7,13 +7,14 @@ use Rattle.dds.specs.declared.layout.Layout.{Layout}
 use Rattle.loans.specs.declared.docket.Docket.{Docket}
 use Rattle.loans.specs.declared.job.Job.{Job}
 use Rattle.loans.specs.Jobs.{book_of, fresh_book}
-use Rattle.loans.specs.Stocks.{Stock, stock_of, are_ours}
+use Rattle.loans.specs.Stocks.{Stock, stock_of, SameRoom, are_ours}
 use Rattle.loans.specs.Strokes.{State, state_of}
 use Rattle.loans.specs.Rules.{answers_to, after_all}
 use Rattle.loans.specs.History.{history_of}
 use Rattle.loans.specs.Law.{Law}
 use Rattle.loans.specs.Runs.{opened_state, is_empty, OursAlong, AllDone, Ordered, FileOpened, RanSo}
 use Rattle.loans.proofs.Calls.{answers_to_length}
+use Rattle.loans.proofs.Limits.{same_after_all}
 use Rattle.loans.proofs.Runs.{law_run, ours_run}
 
 -- what the opening of a run gave
@@ -63,6 +64,7 @@ module _ (o : Ordered) (t : Job) (x : OpenedJob o t) where
         each = answers_to_length first o.calls;
         by_rules = refl;
         state = is;
+        same_room = subst (λ (s : State). SameRoom (stock_of o.shelves) s.stock) (sym is) (same_after_all first o.calls);
         law = λ marks bytes. subst (Law t.layout o.number (stock_of o.shelves).most_marks (stock_of o.shelves).most_bytes o.file (history_of o.calls (answers_to first o.calls))) (sym is)
             (law_run t.layout o.number o.file (stock_of o.shelves) o.calls sized marks bytes);
       }

@@ -1,8 +1,8 @@
 // Running a list of calls on a newly opened job.
-ghost use Rattle.std.specs.Prelude.{◌≡◌, Some, ◌+◌, ◌≤◌, map, length, vec_len, vec_capacity};
+ghost use Rattle.std.specs.Prelude.{◌≡◌, Some, ◌+◌, ◌≤◌, IfOk, map, length, vec_len, vec_capacity};
 ghost use Rattle.loans.specs.declared.running.RunFault.TheVariants.{Refused};
 ghost use Rattle.loans.specs.Jobs.{book_of};
-ghost use Rattle.loans.specs.Stocks.{stock_of, OursWhere};
+ghost use Rattle.loans.specs.Stocks.{stock_of, SameRoom, answer_limit, OursWhere};
 ghost use Rattle.loans.specs.Strokes.{state_of};
 ghost use Rattle.loans.specs.Rules.{deed_of};
 ghost use Rattle.loans.specs.Calls.{Called};
@@ -72,7 +72,9 @@ impl Job {
         }
     }
 
-    /// Makes one call that is given as a value. Refuses as the call's own method does.
+    /// Makes one call that is given as a value. Refuses as the call's own method does. What the shelves can hold stays; the number
+    /// that it answers is at most 65,535, or what the shelf of marks can hold where that is more.
+    #[tactic(auto, using(crate::proofs::Handed::called_handed, crate::proofs::Limits::called_room, crate::proofs::Limits::called_within))]
     pub fn carry_out(
         &mut self,
         file: &mut [u8],
@@ -82,6 +84,8 @@ impl Job {
         ensures rule { Called (deed_of call.entry) self.old file.old shelves.old
             result self.new file.new shelves.new }
         ensures handed { HandedBy (deed_of call.entry) result (book_of self.new) }
+        ensures room { SameRoom (stock_of shelves.old) (stock_of shelves.new) }
+        ensures limit { IfOk result (λ number. number ≤ answer_limit (stock_of shelves.old)) }
     {
         self.call(file, shelves, call, false)
     }
