@@ -1,11 +1,11 @@
 -- What stands on a job's shelves, and when the shelves are the job's.
-use Rattle.std.specs.Prelude.{◌≡◌, ℕ, suc, ◌+◌, Bool, true, cond, ◌&&◌, List, [], ◌∷◌, length, ◌==◌, nat_le}
+use Rattle.std.specs.Prelude.{◌≡◌, ℕ, suc, ◌+◌, ◌≤◌, Bool, true, cond, ◌&&◌, List, [], ◌∷◌, length, ◌==◌, nat_le}
 use Rattle.std.specs.List.{list_any, list_all}
+use Rattle.shelf.specs.declared.Shelf.{Shelf}
 use Rattle.shelf.specs.Model.{contents, capacity_of}
 use Rattle.dds.specs.declared.area.Area.{Area}
 use Rattle.loans.specs.declared.ledger.Loan.{Loan}
 use Rattle.loans.specs.declared.mark.Mark.{Mark}
-use Rattle.loans.specs.declared.mark.Shelves.{Shelves}
 use Rattle.loans.specs.Lists.{first_or}
 use Rattle.loans.specs.Books.{no_loan}
 use Rattle.loans.specs.Jobs.{Book}
@@ -17,15 +17,22 @@ pub record Stock : Type 0 where
   pub most_marks : ℕ
   pub most_bytes : ℕ
 
--- what two shelves hold, and how much they can hold
-abbrev pub stock_of : Shelves → Stock
-stock_of s =
+-- what a shelf of marks and one of kept bytes hold, and how much they can hold
+abbrev pub stock_on : Shelf Mark → Shelf ℕ → Stock
+stock_on marks' bytes' =
     record {
-      marks = contents s.marks;
-      bytes = contents s.bytes;
-      most_marks = capacity_of s.marks;
-      most_bytes = capacity_of s.bytes;
+      marks = contents marks';
+      bytes = contents bytes';
+      most_marks = capacity_of marks';
+      most_bytes = capacity_of bytes';
     }
+
+-- what stands on the shelves is no more than they can hold, and each can hold at most 1,073,741,824
+pub record Fits (k : Stock) : Type 0 where
+  pub marks : length k.marks ≤ k.most_marks
+  pub bytes : length k.bytes ≤ k.most_bytes
+  pub marks_capped : k.most_marks ≤ 1073741824
+  pub bytes_capped : k.most_bytes ≤ 1073741824
 
 -- the loan has that number
 abbrev pub is_number : ℕ → Loan → Bool
