@@ -17,7 +17,7 @@ mod tests;
 const MOST: usize = 1_073_741_824;
 
 /// A list of elements in lent memory, and the most elements that it can hold: as many as the memory holds, and at most
-/// 1,073,741,824.
+/// 1,073,741,824. Each call that is handed one, or makes one, tells that it holds no more (`IsBounded`).
 #[derive(Drop)]
 pub struct Shelf<'a, T> {
     // lent, with a count beside it: a Vec would own its memory
@@ -45,6 +45,7 @@ impl<'a, T: Copy> Shelf<'a, T> {
     pub fn new(memory: &'a mut [T]) -> Shelf<'a, T>
         ensures items { result.items ≡ [] }
         ensures most { result.most ≡ min (length memory.old) 1073741824 }
+        ensures bounded { IsBounded result }
     {
         Shelf { memory, count: 0 }
     }
@@ -88,6 +89,7 @@ impl<'a, T: Copy> Shelf<'a, T> {
         ensures refusal { IfErr result (λ e. e ≡ ShelfFull) }
         ensures items { OnOk result (self.new.items ≡ self.old.items ++ element ∷ []) }
         ensures most { self.new.most ≡ self.old.most }
+        ensures bounded { IsBounded self.new }
         ensures unchanged { OnErr result (self.new ≡ self.old) }
     {
         if self.space_left() == 0 {
@@ -106,6 +108,7 @@ impl<'a, T: Copy> Shelf<'a, T> {
         ensures refusal { IfErr result (λ e. e ≡ ShelfFull) }
         ensures items { OnOk result (self.new.items ≡ self.old.items ++ elements.now) }
         ensures most { self.new.most ≡ self.old.most }
+        ensures bounded { IsBounded self.new }
         ensures unchanged { OnErr result (self.new ≡ self.old) }
     {
         if elements.len() > self.space_left() {
@@ -118,7 +121,8 @@ impl<'a, T: Copy> Shelf<'a, T> {
 
     // The run of `count` elements at `position` ends within what the shelf holds. Their sum could wrap, so the difference is compared.
     fn has_run(&self, position: usize, count: usize) -> bool
-        ensures { result ≡ nat_le (position + count) (length self.now.items) }
+        ensures value { result ≡ nat_le (position + count) (length self.now.items) }
+        ensures bounded { IsBounded self.now }
     {
         position <= self.count && count <= self.count - position
     }
@@ -155,9 +159,10 @@ impl<'a, T: Copy> Shelf<'a, T> {
         ensures refusal { IfErr result (λ e. e ≡ PastCount) }
         ensures items { OnOk result (self.new.items ≡ slid_down from count to self.old.items) }
         ensures most { self.new.most ≡ self.old.most }
+        ensures bounded { IsBounded self.new }
         ensures unchanged { OnErr result (self.new ≡ self.old) }
     {
-        if to > from || !self.has_run(from, count) {
+        if !self.has_run(from, count) || to > from {
             return Err(Refusal::PastCount);
         }
         move_down(self.memory, from, count, to);
@@ -171,6 +176,7 @@ impl<'a, T: Copy> Shelf<'a, T> {
         ensures refusal { IfErr result (λ e. e ≡ PastCount) }
         ensures items { OnOk result (self.new.items ≡ take count self.old.items) }
         ensures most { self.new.most ≡ self.old.most }
+        ensures bounded { IsBounded self.new }
         ensures unchanged { OnErr result (self.new ≡ self.old) }
     {
         if count > self.count {
@@ -187,6 +193,7 @@ impl<'a, T: Copy> Shelf<'a, T> {
         ensures refusal { IfErr result (λ e. e ≡ PastCount) }
         ensures items { OnOk result (self.new.items ≡ without_run position count self.old.items) }
         ensures most { self.new.most ≡ self.old.most }
+        ensures bounded { IsBounded self.new }
         ensures unchanged { OnErr result (self.new ≡ self.old) }
     {
         if !self.has_run(position, count) {
