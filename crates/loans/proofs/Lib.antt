@@ -2,7 +2,6 @@ mod Counting
 mod Slots
 mod Tallying
 mod Owning
-mod Shelving
 mod Recounting
 mod Allowed
 mod Listed

@@ -1,8 +1,7 @@
 -- What stands on a job's shelves, and when the shelves are the job's.
 use Rattle.std.specs.Prelude.{◌≡◌, ℕ, suc, ◌+◌, ◌≤◌, Bool, true, cond, ◌&&◌, List, [], ◌∷◌, length, ◌==◌, nat_le}
 use Rattle.std.specs.List.{list_any, list_all}
-use Rattle.shelf.specs.declared.Shelf.{Shelf}
-use Rattle.shelf.specs.Model.{contents, capacity_of}
+use Rattle.shelf.specs.Held.{Held}
 use Rattle.dds.specs.declared.area.Area.{Area}
 use Rattle.loans.specs.declared.ledger.Loan.{Loan}
 use Rattle.loans.specs.declared.mark.Mark.{Mark}
@@ -18,13 +17,13 @@ pub record Stock : Type 0 where
   pub most_bytes : ℕ
 
 -- what a shelf of marks and one of kept bytes hold, and how much they can hold
-abbrev pub stock_on : Shelf Mark → Shelf ℕ → Stock
+abbrev pub stock_on : Held Mark → Held ℕ → Stock
 stock_on marks' bytes' =
     record {
-      marks = contents marks';
-      bytes = contents bytes';
-      most_marks = capacity_of marks';
-      most_bytes = capacity_of bytes';
+      marks = marks'.items;
+      bytes = bytes'.items;
+      most_marks = marks'.most;
+      most_bytes = bytes'.most;
     }
 
 -- what stands on the shelves is no more than they can hold, and each can hold at most 1,073,741,824

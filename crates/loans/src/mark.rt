@@ -1,6 +1,5 @@
 // What a job shelves of each stroke that can still be undone.
 ghost use Rattle.std.specs.Prelude.{◌≡◌};
-ghost use Rattle.shelf.specs.Model.{contents, capacity_of};
 ghost use Rattle.loans.specs.Stocks.{stock_on};
 
 use shelf::Shelf;
@@ -27,11 +26,13 @@ pub struct Shelves<'a> {
 }
 
 impl<'a> Model for Shelves<'a> {
-    ghost use Rattle.loans.specs.Stocks.{Stock, stock_on};
+    ghost use Rattle.loans.specs.Stocks.{Stock, Fits, stock_on};
 
     ghost Value = { Stock };
 
     ghost view = { λ s. stock_on s.marks s.bytes };
+
+    ghost invariant = { λ s. Fits (stock_on s.marks s.bytes) };
 }
 
 impl<'a> Shelves<'a> {
@@ -39,21 +40,23 @@ impl<'a> Shelves<'a> {
     pub fn of(marks: Shelf<'a, Mark>, bytes: Shelf<'a, u8>) -> Shelves<'a>
         ensures { result ≡ stock_on marks.entry bytes.entry }
     {
+        // each call on a shelf tells that it holds no more than it can
+        let _ = (marks.count(), bytes.count());
         Shelves { marks, bytes }
     }
 
     /// The shelf of marks.
     pub fn marks(&self) -> &Shelf<'a, Mark>
-        ensures held { contents result.now ≡ self.now.marks }
-        ensures most { capacity_of result.now ≡ self.now.most_marks }
+        ensures held { result.now.items ≡ self.now.marks }
+        ensures most { result.now.most ≡ self.now.most_marks }
     {
         &self.marks
     }
 
     /// The shelf of kept bytes.
     pub fn bytes(&self) -> &Shelf<'a, u8>
-        ensures held { contents result.now ≡ self.now.bytes }
-        ensures most { capacity_of result.now ≡ self.now.most_bytes }
+        ensures held { result.now.items ≡ self.now.bytes }
+        ensures most { result.now.most ≡ self.now.most_bytes }
     {
         &self.bytes
     }

@@ -1,7 +1,7 @@
-use Rattle.std.proofs.Common.{ap, length, sym, subst, arith}
+use Rattle.std.proofs.Common.{◌≤◌, ap, length, sym, subst, arith, rules}
 use Rattle.std.proofs.lemmas.List.{length-drop}
 use Rattle.loans.specs.Stocks.{Stock}
-use Rattle.loans.proofs.Sifted.{Sifted, lengths_from, next_slides, next_gone, run_slides, run_moved, sifted_all}
+use Rattle.loans.proofs.Sifted.{Sifted, lengths_from, next_slides, next_gone, run_slides, run_moved, marks_cut, bytes_cut, sifted_all}
 use Rattle.loans.proofs.mark.Shelves.drop_loan.Goals as goal
 
 pub and-passed-requires-clause-marks : goal.and-passed-requires-clause-marks
@@ -52,6 +52,6 @@ pub returns : goal.returns
 returns c =
     let past = ap length c.marks_behind.ensures.marks in
     let left = length-drop c.loop-passed.passed.marks c.loop-passed.self.marks in
-    sifted_all c.args.self.now _ _ _ _ c.args.loan c.loop-passed.passed c.loop-passed.stays _ _
-    (subst (λ (k : Stock). Sifted c.args.self.now k c.args.loan c.loop-passed.passed c.loop-passed.stays) (sym c.self.view_is) c.loop-passed.invariant)
-    (omega (arith, past, left, c.in_default.len_below, c.loop-passed.invariant.marks_count)) c.requires c.truncate.ensures c.truncate-2.ensures
+    let all : length c.args.self.now.marks ≤ c.loop-passed.passed.marks = omega (arith, past, left, c.in_default.len_below, c.loop-passed.invariant.marks_count) in
+    let s = subst (λ (k : Stock). Sifted c.args.self.now k c.args.loan c.loop-passed.passed c.loop-passed.stays) (sym c.self.view_is) c.loop-passed.invariant in
+    search (rules, marks_cut s all c.requires, bytes_cut s all c.requires, sifted_all s all c.requires)
