@@ -8,11 +8,10 @@ use Rattle.refusal.specs.declared.Refusal.TheVariants.{OtherLength, LoanNotOut}
 use Rattle.loans.specs.declared.job.Job.{Job}
 use Rattle.loans.specs.declared.ledger.Loan.{Loan}
 use Rattle.loans.specs.declared.mark.Mark.{Mark}
-use Rattle.loans.specs.declared.mark.Shelves.{Shelves}
 use Rattle.loans.specs.Lists.{less_all}
 use Rattle.loans.specs.Books.{no_loan}
 use Rattle.loans.specs.Jobs.{Book, book_of}
-use Rattle.loans.specs.Stocks.{Stock, stock_of, is_number, is_out, the_loan}
+use Rattle.loans.specs.Stocks.{Stock, is_number, is_out, the_loan}
 use Rattle.loans.specs.Strokes.{State, counted_loan, is_other_length, painted_stock, undone_stock}
 use Rattle.loans.specs.Ending.{keep_refusal, kept_book, cancel_refusal, cancelled, stock_without}
 use Rattle.loans.specs.Rules.{Deed, call_refusal, carried_out, left, after}
@@ -143,18 +142,18 @@ cancelled_job j f k n b none is =
     let out = not-false _ (passed (not (is_out (book_of j).outs n)) _ _ (passed (is_other_length here) _ _ none).1).0 in
     subst (HandedIn n) (sym is) (cancelled_handed_in here n (job_given j) out)
 
-pub kept_called : (n : ℕ) (j : Job) (f : List ℕ) (v : Shelves) (r : Result ℕ Refusal) (j' : Job) (f' : List ℕ) (v' : Shelves)
+pub kept_called : (n : ℕ) (j : Job) (f : List ℕ) (v : Stock) (r : Result ℕ Refusal) (j' : Job) (f' : List ℕ) (v' : Stock)
     → Called (keep n) j f v r j' f' v' → HandedWhere n r (book_of j')
-kept_called n j f v (Ok x) j' f' v' c = kept_job j (stock_of v) n (book_of j') c.none (ap (λ (s : State). s.book) c.state)
+kept_called n j f v (Ok x) j' f' v' c = kept_job j v n (book_of j') c.none (ap (λ (s : State). s.book) c.state)
 kept_called n j f v (Err e) j' f' v' c = tt
 
-pub cancelled_called : (n : ℕ) (j : Job) (f : List ℕ) (v : Shelves) (r : Result ℕ Refusal) (j' : Job) (f' : List ℕ) (v' : Shelves)
+pub cancelled_called : (n : ℕ) (j : Job) (f : List ℕ) (v : Stock) (r : Result ℕ Refusal) (j' : Job) (f' : List ℕ) (v' : Stock)
     → Called (cancel n) j f v r j' f' v' → HandedWhere n r (book_of j')
-cancelled_called n j f v (Ok x) j' f' v' c = cancelled_job j f (stock_of v) n (book_of j') c.none (ap (λ (s : State). s.book) c.state)
+cancelled_called n j f v (Ok x) j' f' v' c = cancelled_job j f v n (book_of j') c.none (ap (λ (s : State). s.book) c.state)
 cancelled_called n j f v (Err e) j' f' v' c = tt
 
 -- the same of any call
-pub called_handed : (d : Deed) (j : Job) (f : List ℕ) (v : Shelves) (r : Result ℕ Refusal) (j' : Job) (f' : List ℕ) (v' : Shelves)
+pub called_handed : (d : Deed) (j : Job) (f : List ℕ) (v : Stock) (r : Result ℕ Refusal) (j' : Job) (f' : List ℕ) (v' : Stock)
     → Called d j f v r j' f' v' → HandedBy d r (book_of j')
 called_handed (lend p who) j f v r j' f' v' c = tt
 called_handed (paint p) j f v r j' f' v' c = tt

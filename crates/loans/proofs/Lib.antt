@@ -3,7 +3,6 @@ mod Marks
 mod Slots
 mod Tallying
 mod Owning
-mod Shelving
 mod Recounting
 mod Allowed
 mod Listed

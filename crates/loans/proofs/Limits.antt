@@ -7,7 +7,7 @@ use Rattle.loans.specs.declared.job.Job.{Job}
 use Rattle.loans.specs.declared.mark.Mark.{Mark}
 use Rattle.loans.specs.declared.mark.Shelves.{Shelves}
 use Rattle.loans.specs.Calls.{Called}
-use Rattle.loans.specs.Stocks.{Stock, SameRoom, answer_limit, of_loan, marks_of, stock_of}
+use Rattle.loans.specs.Stocks.{Stock, SameRoom, answer_limit, of_loan, marks_of}
 use Rattle.loans.specs.Strokes.{State, state_of}
 use Rattle.loans.specs.Rules.{Deed, number_for, left, after, after_all, call_refusal, carried_out}
 use Rattle.loans.specs.Rules.Deed.{lend, paint, undo, keep, cancel}
@@ -64,11 +64,11 @@ number_within s c (keep n) = omega (arith, c.outs)
 number_within s c (cancel n) = omega (arith, c.outs)
 
 module _ (d : Deed) (j j' : Job) (f f' : List ℕ) (v v' : Shelves) (r : Result ℕ Refusal) (c : Called d j f v r j' f' v') where
-  pub called_room : SameRoom (stock_of v) (stock_of v')
+  pub called_room : SameRoom v v'
   called_room =
-      subst (λ (s : State). SameRoom (stock_of v) s.stock) (sym (called_state d j j' f f' v v' r c)) (same_after (state_of j f v) d)
+      subst (λ (s : State). SameRoom v s.stock) (sym (called_state d j j' f f' v v' r c)) (same_after (state_of j f v) d)
 
-pub called_within : (d : Deed) (j j' : Job) (f f' : List ℕ) (v v' : Shelves) (r : Result ℕ Refusal) → Called d j f v r j' f' v' → IfOk r (λ n. n ≤ answer_limit (stock_of v))
+pub called_within : (d : Deed) (j j' : Job) (f f' : List ℕ) (v v' : Shelves) (r : Result ℕ Refusal) → Called d j f v r j' f' v' → IfOk r (λ n. n ≤ answer_limit v)
 called_within d j j' f f' v v' (Ok n) c =
     let same = called_room d j j' f f' v v' (Ok n) c in
     omega (arith, same.marks, c.answer, ap (λ (s : State). number_for s d) c.state, number_within (state_of j' f' v') (counted_state j' f' v') d)

@@ -5,7 +5,7 @@ use lib.Seq.{paste, split_at}
 use Rattle.std.proofs.Math.Seq.{take-append_seam, get_or-append_seam}
 use Rattle.std.proofs.lemmas.List.{take_more, at_drop_more, take-take, get_or-take}
 use Rattle.std.proofs.lemmas.Bool.{cond-true, cond-false, eq-eqb, ne_eqb, and_right, false≢true}
-use Rattle.shelf.specs.Calls.{without_run}
+use Rattle.shelf.specs.Runs.{without_run}
 use Rattle.loans.specs.declared.mark.Mark.{Mark}
 use Rattle.loans.specs.Stocks.{Stock, of_loan, marks_of, lengths}
 use Rattle.loans.specs.Strokes.{is_newest, marks_less, bytes_less, file_back, undone_stock}

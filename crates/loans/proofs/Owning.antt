@@ -1,14 +1,12 @@
 -- When shelves are a job's, by the counts of one pass.
 use Rattle.std.proofs.Common.{◌≡◌, ℕ, ◌≤◌, Bool, true, false, ◌&&◌, eqb, List, length, sym, refl, ap, ◌∙◌, subst, ap₂, subst₂, arith}
 use Rattle.std.proofs.lemmas.Bool.{eq-eqb}
-use Rattle.shelf.specs.Model.{contents}
 use Rattle.loans.specs.declared.job.Job.{Job}
 use Rattle.loans.specs.declared.ledger.Loan.{Loan}
 use Rattle.loans.specs.declared.mark.Mark.{Mark}
-use Rattle.loans.specs.declared.mark.Shelves.{Shelves}
 use Rattle.loans.specs.Books.{outs}
 use Rattle.loans.specs.Jobs.{Book, book_of}
-use Rattle.loans.specs.Stocks.{Stock, stock_of, are_ours, all_counted, all_sound, lengths}
+use Rattle.loans.specs.Stocks.{Stock, are_ours, all_counted, all_sound, lengths}
 use Rattle.loans.specs.Tallies.{Tally, agree}
 use Rattle.loans.proofs.Counting.{out_count}
 use Rattle.loans.proofs.Tallying.{agree_counted}
@@ -26,13 +24,13 @@ module _ (b : Book) (k : Stock) where
       and_true false = refl
 
 -- the steps of the test: what they read, and what each is
-pub owned : (s : Job) (v : Shelves) (ls ls' : List Loan) (ms : List Mark) (n : ℕ) (counts : List ℕ) (r : Bool)
-    → ls ≡ outs s.ledger → ls' ≡ outs s.ledger → ms ≡ contents v.marks → n ≡ length (contents v.bytes)
-    → length ms ≡ s.ledger.marks → n ≡ s.ledger.bytes → Tally ls ms n counts → r ≡ agree ls' counts → r ≡ are_ours (book_of s) (stock_of v)
+pub owned : (s : Job) (v : Stock) (ls ls' : List Loan) (ms : List Mark) (n : ℕ) (counts : List ℕ) (r : Bool)
+    → ls ≡ outs s.ledger → ls' ≡ outs s.ledger → ms ≡ v.marks → n ≡ length v.bytes
+    → length ms ≡ s.ledger.marks → n ≡ s.ledger.bytes → Tally ls ms n counts → r ≡ agree ls' counts → r ≡ are_ours (book_of s) v
 owned s v ls ls' ms n counts r outs₁ outs₂ marks bytes same_marks same_bytes tally agrees =
-    let t : Tally (outs s.ledger) (contents v.marks) (length (contents v.bytes)) counts =
-    subst (λ (x : List Loan). Tally x (contents v.marks) (length (contents v.bytes)) counts) outs₁
+    let t : Tally (outs s.ledger) v.marks (length v.bytes) counts =
+    subst (λ (x : List Loan). Tally x v.marks (length v.bytes) counts) outs₁
     (subst₂ (λ (x : List Mark) (y : ℕ). Tally ls x y counts) marks bytes tally) in
     let few : length (outs s.ledger) ≤ 32 = omega (arith, out_count s.ledger s.balanced, s.balanced.1) in
     agrees ∙ ap (λ (x : List Loan). agree x counts) outs₂
-    ∙ tallied (book_of s) (stock_of v) (ap length (sym marks) ∙ same_marks) (sym bytes ∙ same_bytes) counts few t
+    ∙ tallied (book_of s) v (ap length (sym marks) ∙ same_marks) (sym bytes ∙ same_bytes) counts few t

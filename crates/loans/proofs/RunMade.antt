@@ -7,7 +7,7 @@ use Rattle.dds.specs.declared.layout.Layout.{Layout}
 use Rattle.loans.specs.declared.docket.Docket.{Docket}
 use Rattle.loans.specs.declared.job.Job.{Job}
 use Rattle.loans.specs.Jobs.{book_of, fresh_book}
-use Rattle.loans.specs.Stocks.{Stock, stock_of, SameRoom, are_ours}
+use Rattle.loans.specs.Stocks.{Stock, SameRoom, are_ours}
 use Rattle.loans.specs.Strokes.{State, state_of}
 use Rattle.loans.specs.Rules.{answers_to, after_all}
 use Rattle.loans.specs.History.{history_of}
@@ -32,18 +32,18 @@ made_job o t y opened layout book = record {
 
 module _ (o : Ordered) (t : Job) (x : OpenedJob o t) where
   abbrev first : State
-  first = opened_state t.layout.table o.number o.file (stock_of o.shelves)
+  first = opened_state t.layout.table o.number o.file o.shelves
 
   first_is : state_of t o.file o.shelves ≡ first
-  first_is = λ i. record { book = x.book i; file = o.file; stock = stock_of o.shelves }
+  first_is = λ i. record { book = x.book i; file = o.file; stock = o.shelves }
 
   sized : length o.file ≡ t.layout.table.length
   sized = sym x.opened.table.length
 
   -- shelves that are empty at first are the job's all along
-  pub opened_along : (known : Bool) → known ≡ is_empty (stock_of o.shelves) → OursAlong known (state_of t o.file o.shelves) o.calls
+  pub opened_along : (known : Bool) → known ≡ is_empty o.shelves → OursAlong known (state_of t o.file o.shelves) o.calls
   opened_along known is e i =
-      let k : Stock = stock_of o.shelves in
+      let k : Stock = o.shelves in
       let both = and_parts (eqb (length k.marks) 0) (eqb (length k.bytes) 0) (sym is ∙ e) in
       let marks : k.marks ≡ [] = nil_from_length k.marks (eqb-true _ _ both.0) in
       let bytes : k.bytes ≡ [] = nil_from_length k.bytes (eqb-true _ _ both.1) in
@@ -64,7 +64,7 @@ module _ (o : Ordered) (t : Job) (x : OpenedJob o t) where
         each = answers_to_length first o.calls;
         by_rules = refl;
         state = is;
-        same_room = subst (λ (s : State). SameRoom (stock_of o.shelves) s.stock) (sym is) (same_after_all first o.calls);
-        law = λ marks bytes. subst (Law t.layout o.number (stock_of o.shelves).most_marks (stock_of o.shelves).most_bytes o.file (history_of o.calls (answers_to first o.calls))) (sym is)
-            (law_run t.layout o.number o.file (stock_of o.shelves) o.calls sized marks bytes);
+        same_room = subst (λ (s : State). SameRoom o.shelves s.stock) (sym is) (same_after_all first o.calls);
+        law = λ marks bytes. subst (Law t.layout o.number o.shelves.most_marks o.shelves.most_bytes o.file (history_of o.calls (answers_to first o.calls))) (sym is)
+            (law_run t.layout o.number o.file o.shelves o.calls sized marks bytes);
       }

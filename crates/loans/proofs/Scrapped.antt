@@ -8,11 +8,10 @@ use Rattle.std.proofs.lemmas.Bool.{not_from_true, cond-false, and_parts, and_fro
 use Rattle.loans.specs.declared.job.Job.{Job}
 use Rattle.loans.specs.declared.ledger.Loan.{Loan}
 use Rattle.loans.specs.declared.mark.Mark.{Mark}
-use Rattle.loans.specs.declared.mark.Shelves.{Shelves}
 use Rattle.loans.specs.Lists.{less_all}
 use Rattle.loans.specs.Books.{no_loan, outs}
 use Rattle.loans.specs.Jobs.{book_of}
-use Rattle.loans.specs.Stocks.{stock_of, is_number, is_out, the_loan, of_loan, lengths, lies_in, is_sound, all_sound, are_ours}
+use Rattle.loans.specs.Stocks.{Stock, is_number, is_out, the_loan, of_loan, lengths, lies_in, is_sound, all_sound, are_ours}
 use Rattle.loans.specs.Strokes.{State, state_of, is_other_length, counted_loan}
 use Rattle.loans.specs.Ending.{bytes_of, stock_without, restored, InFile, cancel_refusal, cancelled, all_cancelled}
 use Rattle.loans.specs.Finding.{StandsAt}
@@ -103,7 +102,7 @@ pub record Cancelling (s₀ s : State) : Type 0 where
   pub home : AtHome s
   pub rest : all_cancelled s.book.outs s ≡ all_cancelled s₀.book.outs s₀
 
-module _ (s₀ : State) (s : Job) (f : List ℕ) (v : Shelves) (c : Cancelling s₀ (state_of s f v)) (some : 0 < s.ledger.out) (n : ℕ)
+module _ (s₀ : State) (s : Job) (f : List ℕ) (v : Stock) (c : Cancelling s₀ (state_of s f v)) (some : 0 < s.ledger.out) (n : ℕ)
     (first : n ≡ (get_or (outs s.ledger) 0 no_loan).number) where
   abbrev ls : List Loan
   ls = outs s.ledger
@@ -123,19 +122,19 @@ module _ (s₀ : State) (s : Job) (f : List ℕ) (v : Shelves) (c : Cancelling s
   none : cancel_refusal (state_of s f v) n ≡ None
   none =
       cond-false (is_other_length (state_of s f v)) _ _ (not_from_true _ (eq-eqb _ _ c.home.sized))
-      ∙ cond-false (not (is_out ls n)) _ _ (not_from_true _ stands.out) ∙ cond-false (not (are_ours (book_of s) (stock_of v))) _ _ (not_from_true _ c.home.ours)
+      ∙ cond-false (not (is_out ls n)) _ _ (not_from_true _ stands.out) ∙ cond-false (not (are_ours (book_of s) v)) _ _ (not_from_true _ c.home.ours)
 
   next : Cancelling s₀ (cancelled (state_of s f v) n)
   next = record {
-    home = still_home (state_of s f v) n c.home (subst (λ k. InFile k (stock_of v).marks) (sym c.home.sized) (marks_in_file s (stock_of v) c.home.ours));
+    home = still_home (state_of s f v) n c.home (subst (λ k. InFile k v.marks) (sym c.home.sized) (marks_in_file s v c.home.ours));
     rest =
-        counted_cancelled (stock_without (stock_of v) n).marks (less_all (is_number n) ls) (cancelled (state_of s f v) n)
+        counted_cancelled (stock_without v n).marks (less_all (is_number n) ls) (cancelled (state_of s f v) n)
         ∙ ap (λ (xs : List Loan). all_cancelled xs (cancelled (state_of s f v) n)) left_is
         ∙ ap (λ k. all_cancelled (drop 1 ls) (cancelled (state_of s f v) k)) first
         ∙ sym (ap (λ (xs : List Loan). all_cancelled xs (state_of s f v)) all_is) ∙ c.rest;
   }
 
-  pub cancelled_one : (t : Job) (f' : List ℕ) (w : Shelves) (r : Result ℕ Refusal) → Called (cancel n) s f v r t f' w
+  pub cancelled_one : (t : Job) (f' : List ℕ) (w : Stock) (r : Result ℕ Refusal) → Called (cancel n) s f v r t f' w
       → Cancelling s₀ (state_of t f' w) × (t.ledger.out < s.ledger.out)
   cancelled_one t f' w (Ok a) called = (
     subst (Cancelling s₀) (sym called.state) next,
@@ -144,7 +143,7 @@ module _ (s₀ : State) (s : Job) (f : List ℕ) (v : Shelves) (c : Cancelling s
       out_count s.ledger s.balanced,
       out_count t.ledger t.balanced,
       ap (λ (x : State). length x.book.outs) called.state,
-      length-map (less_all (is_number n) ls) (counted_loan (stock_without (stock_of v) n).marks),
+      length-map (less_all (is_number n) ls) (counted_loan (stock_without v n).marks),
       ap length left_is,
       length-drop 1 ls,
       inside,

@@ -1,32 +1,21 @@
 -- Closing the gaps that a loan's marks and bytes leave on the shelves, run after run.
-use Rattle.std.proofs.Common.{◌≡◌, ℕ, ◌+◌, ◌≤◌, Bool, true, false, cond, not, ◌||◌, List, [], ◌∷◌, ◌++◌, length, get_or, take, drop, Result, sym, refl, ap, ◌∙◌, ap₂, subst, subst₂, append_assoc, append-nil, arith, length-drop, take-append-drop, length-take-le, take-add, take_all, drop-drop}
+use Rattle.std.proofs.Common.{◌≡◌, ℕ, ◌+◌, ◌≤◌, Bool, true, false, cond, not, ◌||◌, List, [], ◌∷◌, ◌++◌, length, get_or, take, drop, sym, refl, ap, ◌∙◌, ap₂, subst, subst₂, append_assoc, append-nil, arith, length-drop, take-append-drop, length-take-le, take-add, take_all, drop-drop}
 use Rattle.std.proofs.lemmas.List.Elements.{filter-append}
 use Rattle.std.proofs.lemmas.List.{length-append}
 use Rattle.std.proofs.lemmas.Bool.{cond-false, true≢false, eq-eqb}
 use Rattle.std.specs.List.{list_any}
-use Rattle.refusal.specs.declared.Refusal.{Refusal}
-use Rattle.shelf.specs.Calls.{Slide, Truncate, slid_down}
-use Rattle.shelf.proofs.Shelves.{counted, slide_done, truncate_done}
+use Rattle.shelf.specs.Runs.{slid_down}
 use Rattle.shelf.proofs.Runs.{slid_front, slid_behind}
 use Rattle.loans.specs.declared.mark.Mark.{Mark}
-use Rattle.loans.specs.declared.mark.Shelves.{Shelves}
 use Rattle.loans.specs.declared.sifting.Amount.{Amount}
 use Rattle.loans.specs.Lists.{less_all}
-use Rattle.loans.specs.Stocks.{Stock, stock_of, of_loan, lengths}
+use Rattle.loans.specs.Stocks.{Stock, of_loan, lengths}
 use Rattle.loans.specs.Taking.{no_mark}
 use Rattle.loans.specs.Ending.{bytes_of, stock_without}
 use Rattle.loans.specs.Sifting.{Leads, CanSlide, stock_slid}
 use Rattle.loans.proofs.Listed.{less_all_none}
 use Rattle.loans.proofs.Marks.{lengths_cons, lengths_append}
 use Rattle.loans.proofs.Searches.{none_all}
-
-pub slid : (v w : Shelves) (behind run stays : Amount) (r r' : Result Unit Refusal) → CanSlide (stock_of v) behind run stays
-    → Slide v.marks behind.marks run.marks stays.marks r w.marks → Slide v.bytes behind.bytes run.bytes stays.bytes r' w.bytes
-    → stock_of w ≡ stock_slid (stock_of v) behind run stays
-slid v w behind run stays r r' fits marks bytes =
-    let p = (slide_done v.marks w.marks behind.marks run.marks stays.marks r (omega (arith, fits.marks, counted v.marks)) fits.marks_down marks).1 in
-    let q = (slide_done v.bytes w.bytes behind.bytes run.bytes stays.bytes r' (omega (arith, fits.bytes, counted v.bytes)) fits.bytes_down bytes).1 in
-    λ i. record { marks = p.holds i; bytes = q.holds i; most_marks = p.capacity i; most_bytes = q.capacity i }
 
 pub length_slid : {X : Type 0} (xs : List X) (from n to : ℕ) → to ≤ from → from + n ≤ length xs → length (slid_down from n to xs) ≡ length xs
 length_slid xs from n to down inside =
@@ -235,13 +224,19 @@ module _ {old st : Stock} {n : ℕ} {passed stays : Amount} (s : Sifted old st n
         (sifted_in s covered run run_inside run_bytes (ap (λ xs. list_any (of_loan n) (take run.marks xs)) (sym read) ∙ leads.others) st' slid_is)
 
 -- what is left once all marks were passed, and both shelves cut off behind what stays
-pub sifted_all : (old : Stock) (v w : Shelves) (n : ℕ) (passed stays : Amount) (r r' : Result ℕ Refusal) → Sifted old (stock_of v) n passed stays
-    → length old.marks ≤ passed.marks → lengths old.marks ≡ length old.bytes
-    → Truncate v.marks stays.marks r w.marks → Truncate v.bytes stays.bytes r' w.bytes → stock_of w ≡ stock_without old n
-sifted_all old v w n passed stays r r' s past covered marks bytes =
-    let all : take passed.marks old.marks ≡ old.marks = take_all passed.marks old.marks past in
-    let p = (truncate_done v.marks w.marks stays.marks r (omega (arith, s.marks_low, s.marks_in, s.marks_count, counted v.marks)) marks).1 in
-    let q = (truncate_done v.bytes w.bytes stays.bytes r' (omega (arith, s.bytes_low, s.begin, ap lengths all, covered, s.bytes_count, counted v.bytes)) bytes).1 in
-    let front = p.holds ∙ s.marks_front ∙ ap (less_all (of_loan n)) all in
-    let back = q.holds ∙ s.bytes_front ∙ ap (λ ms. rest_of n ms old.bytes) all in
-    λ k. record { marks = front k; bytes = back k; most_marks = (p.capacity ∙ s.most_marks) k; most_bytes = (q.capacity ∙ s.most_bytes) k }
+module _ {old st : Stock} {n : ℕ} {passed stays : Amount} (s : Sifted old st n passed stays) (past : length old.marks ≤ passed.marks)
+    (covered : lengths old.marks ≡ length old.bytes) where
+  all : take passed.marks old.marks ≡ old.marks
+  all = take_all passed.marks old.marks past
+
+  pub marks_cut : stays.marks ≤ length st.marks
+  marks_cut = omega (arith, s.marks_low, s.marks_in, s.marks_count)
+
+  pub bytes_cut : stays.bytes ≤ length st.bytes
+  bytes_cut = omega (arith, s.bytes_low, s.begin, ap lengths all, covered, s.bytes_count)
+
+  pub sifted_all : record st { marks = take stays.marks st.marks; bytes = take stays.bytes st.bytes } ≡ stock_without old n
+  sifted_all =
+      let marks = s.marks_front ∙ ap (less_all (of_loan n)) all in
+      let bytes = s.bytes_front ∙ ap (λ ms. rest_of n ms old.bytes) all in
+      λ k. record { marks = marks k; bytes = bytes k; most_marks = s.most_marks k; most_bytes = s.most_bytes k }

@@ -3,15 +3,13 @@ use Rattle.std.proofs.Common.{◌≡◌, ℕ, zero, suc, ◌+◌, ◌-◌, ◌<�
 use Rattle.std.specs.List.{find}
 use Rattle.std.specs.Option.{unwrap_or}
 use Rattle.std.proofs.lemmas.Bool.{false≢true, cond-true, cond-false, and_parts, leb-true, eqb-true, ne_eqb}
-use Rattle.shelf.specs.Model.{contents}
 use Rattle.dds.specs.declared.area.Area.{Area}
 use Rattle.loans.specs.declared.job.Job.{Job}
 use Rattle.loans.specs.declared.ledger.Loan.{Loan}
 use Rattle.loans.specs.declared.mark.Mark.{Mark}
-use Rattle.loans.specs.declared.mark.Shelves.{Shelves}
 use Rattle.loans.specs.Books.{no_loan, outs}
 use Rattle.loans.specs.Jobs.{book_of}
-use Rattle.loans.specs.Stocks.{Stock, stock_of, is_number, is_out, the_loan, of_loan, marks_of, lengths, are_ours, is_sound, all_sound, lies_in}
+use Rattle.loans.specs.Stocks.{Stock, is_number, is_out, the_loan, of_loan, marks_of, lengths, are_ours, is_sound, all_sound, lies_in}
 use Rattle.loans.specs.Strokes.{State, state_of, HeldAt, undone_stock, recounted}
 use Rattle.loans.specs.Taking.{no_mark, NewestAt, file_less, stock_less, UndoAt}
 use Rattle.loans.specs.Ending.{InFile}
@@ -67,21 +65,21 @@ module _ (st : Stock) (n k begin : ℕ) (at : NewestAt st.marks n k begin) (x : 
       omega (arith, count_with, count_without, here)
 
 -- the tests of an undo, passed
-pub undo_at : (s : Job) (f : List ℕ) (v : Shelves) (n who k position begin : ℕ) → HeldAt (state_of s f v) n who k
-    → NewestAt (contents v.marks) n position begin → UndoAt (state_of s f v) n who k position begin
+pub undo_at : (s : Job) (f : List ℕ) (v : Stock) (n who k position begin : ℕ) → HeldAt (state_of s f v) n who k
+    → NewestAt v.marks n position begin → UndoAt (state_of s f v) n who k position begin
 undo_at s f v n who k position begin held newest =
-    let o = ours (book_of s) (stock_of v) held.ours in
-    let st = stock_of v in
-    let m = get_or (contents v.marks) position no_mark in
-    let some : 0 < marks_of n (contents v.marks) = omega (arith, one_less st n position begin newest n refl) in
-    let lies = sound_end (outs s.ledger) m (sound_at (outs s.ledger) (contents v.marks) o.sound position newest.inside) in
+    let o = ours (book_of s) v held.ours in
+    let st = v in
+    let m = get_or v.marks position no_mark in
+    let some : 0 < marks_of n v.marks = omega (arith, one_less st n position begin newest n refl) in
+    let lies = sound_end (outs s.ledger) m (sound_at (outs s.ledger) v.marks o.sound position newest.inside) in
     let of-n : n ≡ m.loan = eqb-true n _ newest.loan in
     let is : the_loan (outs s.ledger) m.loan ≡ get_or (outs s.ledger) k no_loan = ap (the_loan (outs s.ledger)) (sym of-n) ∙ held.loan.found in
     let in-file = out_inside s.layout.table.length s.ledger s.balanced s.inside k held.loan.inside _ is in
-    let all = ap lengths (parts n position begin st newest) ∙ lengths_append (take position (contents v.marks)) (m ∷ drop (position + 1) (contents v.marks)) in
-    let this = lengths_cons m (drop (position + 1) (contents v.marks)) in
+    let all = ap lengths (parts n position begin st newest) ∙ lengths_append (take position v.marks) (m ∷ drop (position + 1) v.marks) in
+    let this = lengths_cons m (drop (position + 1) v.marks) in
     record {
-      none = held.next _ ∙ cond-false (eqb (marks_of n (contents v.marks)) 0) _ _ (ne_eqb _ _ (λ e. omega arith));
+      none = held.next _ ∙ cond-false (eqb (marks_of n v.marks) 0) _ _ (ne_eqb _ _ (λ e. omega arith));
       loan = held.loan;
       newest = newest;
       whole = record {
@@ -89,41 +87,41 @@ undo_at s f v n who k position begin held newest =
         in_file = omega (arith, lies, in-file.0, held.sized);
         on_shelf = omega (arith, all, newest.begin, o.covered);
       };
-      some = omega (arith, counted_at (outs s.ledger) (contents v.marks) o.counted k held.loan.inside, some, ap (λ y. marks_of y (contents v.marks)) held.loan.number);
+      some = omega (arith, counted_at (outs s.ledger) v.marks o.counted k held.loan.inside, some, ap (λ y. marks_of y v.marks) held.loan.number);
     }
 
 -- the steps of an undo: what they left, and what each is
-pub record UndoSteps (s t : Job) (f f' : List ℕ) (v w : Shelves) (n who k position begin strokes : ℕ) : Type 0 where
+pub record UndoSteps (s t : Job) (f f' : List ℕ) (v w : Stock) (n who k position begin strokes : ℕ) : Type 0 where
   pub tested : UndoAt (state_of s f v) n who k position begin
-  pub file : f' ≡ file_less f (stock_of v) position begin
-  pub shelves : stock_of w ≡ stock_less (stock_of v) position begin
+  pub file : f' ≡ file_less f v position begin
+  pub shelves : w ≡ stock_less v position begin
   pub before : strokes ≡ (get_or (outs s.ledger) k no_loan).strokes
   pub layout : t.layout ≡ s.layout
-  pub ledger : t.ledger ≡ ledger_counted s.ledger k (strokes - 1) (length (stock_of w).marks) (length (stock_of w).bytes)
+  pub ledger : t.ledger ≡ ledger_counted s.ledger k (strokes - 1) (length w.marks) (length w.bytes)
 
-module _ {s t : Job} {f f' : List ℕ} {v w : Shelves} {n who k position begin strokes : ℕ} (x : UndoSteps s t f f' v w n who k position begin strokes) where
+module _ {s t : Job} {f f' : List ℕ} {v w : Stock} {n who k position begin strokes : ℕ} (x : UndoSteps s t f f' v w n who k position begin strokes) where
   abbrev st : State
   st = state_of s f v
 
-  stock_is : stock_of w ≡ undone_stock (stock_of v) n
-  stock_is = x.shelves ∙ undone_stock_lem n position begin (stock_of v) x.tested.newest
+  stock_is : w ≡ undone_stock v n
+  stock_is = x.shelves ∙ undone_stock_lem n position begin v x.tested.newest
 
-  count_is : strokes - 1 ≡ marks_of n (stock_of w).marks
+  count_is : strokes - 1 ≡ marks_of n w.marks
   count_is =
-      let o = ours (book_of s) (stock_of v) (may_undo st n who x.tested.none).ours in
+      let o = ours (book_of s) v (may_undo st n who x.tested.none).ours in
       let stands = x.tested.loan in
-      let before = x.before ∙ counted_at (outs s.ledger) (contents v.marks) o.counted k stands.inside ∙ ap (λ y. marks_of y (contents v.marks)) stands.number in
-      let one = one_less (stock_of v) n position begin x.tested.newest n refl in
+      let before = x.before ∙ counted_at (outs s.ledger) v.marks o.counted k stands.inside ∙ ap (λ y. marks_of y v.marks) stands.number in
+      let one = one_less v n position begin x.tested.newest n refl in
       let all = ap (λ (y : Stock). marks_of n y.marks) x.shelves in
       omega (arith, before, one, all)
 
-  others : (m : ℕ) → m ≢ n → marks_of m (stock_of w).marks ≡ marks_of m (stock_of v).marks
-  others m ne = ap (λ (y : Stock). marks_of m y.marks) x.shelves ∙ same_count (stock_of v) n position begin x.tested.newest m ne
+  others : (m : ℕ) → m ≢ n → marks_of m w.marks ≡ marks_of m v.marks
+  others m ne = ap (λ (y : Stock). marks_of m y.marks) x.shelves ∙ same_count v n position begin x.tested.newest m ne
 
-  book_is : book_of t ≡ recounted (book_of s) (stock_of w)
+  book_is : book_of t ≡ recounted (book_of s) w
   book_is =
-      recounts s t k n (stock_of v) (stock_of w) (may_undo st n who x.tested.none).ours x.tested.loan others x.layout
-      (x.ledger ∙ ap (λ y. ledger_counted s.ledger k y (length (stock_of w).marks) (length (stock_of w).bytes)) count_is)
+      recounts s t k n v w (may_undo st n who x.tested.none).ours x.tested.loan others x.layout
+      (x.ledger ∙ ap (λ y. ledger_counted s.ledger k y (length w.marks) (length w.bytes)) count_is)
 
   pub undo_carried : Carried (undo n who) st (strokes - 1) (state_of t f' w)
   undo_carried = record {
@@ -131,7 +129,7 @@ module _ {s t : Job} {f f' : List ℕ} {v w : Shelves} {n who k position begin s
     answer = count_is ∙ ap (λ (y : Stock). marks_of n y.marks) stock_is;
     state = λ i. record {
       book = (book_is ∙ ap (recounted (book_of s)) stock_is) i;
-      file = (x.file ∙ undone_file n position begin (stock_of v) x.tested.newest f) i;
+      file = (x.file ∙ undone_file n position begin v x.tested.newest f) i;
       stock = stock_is i;
     };
   }

@@ -11,7 +11,7 @@ use Rattle.loans.specs.declared.mark.Shelves.{Shelves}
 use Rattle.loans.specs.declared.running.RunFault.{RunFault}
 use Rattle.loans.specs.declared.running.RunFault.TheVariants.{Refused, NoRoom}
 use Rattle.loans.specs.Jobs.{fresh_book}
-use Rattle.loans.specs.Stocks.{Stock, stock_of, SameRoom, are_ours}
+use Rattle.loans.specs.Stocks.{Stock, SameRoom, are_ours}
 use Rattle.loans.specs.Strokes.{State, state_of}
 use Rattle.loans.specs.Rules.{Deed, answers_to, after_all}
 use Rattle.loans.specs.History.{history_of}
@@ -61,11 +61,11 @@ pub record RanSo (o : Ordered) (d : Docket) (t : State) (all : List (Result ℕ 
   pub given : List (Result ℕ Refusal)
   pub answers : all ≡ o.old ++ given
   pub each : length given ≡ length o.calls
-  pub by_rules : given ≡ answers_to (opened_state layout.table o.number o.file (stock_of o.shelves)) o.calls
-  pub state : t ≡ after_all (opened_state layout.table o.number o.file (stock_of o.shelves)) o.calls
-  pub same_room : SameRoom (stock_of o.shelves) t.stock
-  pub law : (stock_of o.shelves).marks ≡ [] → (stock_of o.shelves).bytes ≡ []
-      → Law layout o.number (stock_of o.shelves).most_marks (stock_of o.shelves).most_bytes o.file (history_of o.calls given) t
+  pub by_rules : given ≡ answers_to (opened_state layout.table o.number o.file o.shelves) o.calls
+  pub state : t ≡ after_all (opened_state layout.table o.number o.file o.shelves) o.calls
+  pub same_room : SameRoom o.shelves t.stock
+  pub law : o.shelves.marks ≡ [] → o.shelves.bytes ≡ []
+      → Law layout o.number o.shelves.most_marks o.shelves.most_bytes o.file (history_of o.calls given) t
 
 -- a fault as text
 abbrev pub fault_text : RunFault → List ℕ

@@ -1,7 +1,7 @@
 -- Moving strokes down on the shelves, over the gaps that a loan leaves.
 use Rattle.std.specs.Prelude.{◌≡◌, ℕ, ◌+◌, ◌<◌, ◌≤◌, true, false, List, length, take, get_or}
 use Rattle.std.specs.List.{list_any}
-use Rattle.shelf.specs.Calls.{slid_down}
+use Rattle.shelf.specs.Runs.{slid_down}
 use Rattle.loans.specs.declared.mark.Mark.{Mark}
 use Rattle.loans.specs.declared.sifting.Amount.{Amount}
 use Rattle.loans.specs.Stocks.{Stock, of_loan, lengths}

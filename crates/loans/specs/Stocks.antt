@@ -1,12 +1,11 @@
 -- What stands on a job's shelves, and when the shelves are the job's.
-use Rattle.std.specs.Prelude.{◌≡◌, ℕ, ◌+◌, max, Bool, true, ◌&&◌, List, length, count_by, sum_by, ◌==◌, nat_le}
+use Rattle.std.specs.Prelude.{◌≡◌, ℕ, ◌+◌, ◌≤◌, max, Bool, true, ◌&&◌, List, [], length, count_by, sum_by, ◌==◌, nat_le}
 use Rattle.std.specs.List.{list_any, list_all, find}
 use Rattle.std.specs.Option.{unwrap_or}
-use Rattle.shelf.specs.Model.{contents, capacity_of}
+use Rattle.shelf.specs.Held.{Held}
 use Rattle.dds.specs.declared.area.Area.{Area}
 use Rattle.loans.specs.declared.ledger.Loan.{Loan}
 use Rattle.loans.specs.declared.mark.Mark.{Mark}
-use Rattle.loans.specs.declared.mark.Shelves.{Shelves}
 use Rattle.loans.specs.Books.{no_loan}
 use Rattle.loans.specs.Jobs.{Book}
 
@@ -17,14 +16,14 @@ pub record Stock : Type 0 where
   pub most_marks : ℕ
   pub most_bytes : ℕ
 
--- what two shelves hold, and how much they can hold
-abbrev pub stock_of : Shelves → Stock
-stock_of s =
+-- what a shelf of marks and one of kept bytes hold, and how much they can hold
+abbrev pub stock_on : Held Mark → Held ℕ → Stock
+stock_on marks' bytes' =
     record {
-      marks = contents s.marks;
-      bytes = contents s.bytes;
-      most_marks = capacity_of s.marks;
-      most_bytes = capacity_of s.bytes;
+      marks = marks'.items;
+      bytes = bytes'.items;
+      most_marks = marks'.most;
+      most_bytes = bytes'.most;
     }
 
 -- two shelves that hold nothing, and can hold so many marks and bytes
@@ -40,6 +39,13 @@ pub record SameRoom (old new : Stock) : Type 0 where
 -- the largest number that a call answers: 65,535, or as many marks as the shelf can hold where that is more
 abbrev pub answer_limit : Stock → ℕ
 answer_limit k = max 65535 k.most_marks
+
+-- what stands on the shelves is no more than they can hold, and each can hold at most 1,073,741,824
+pub record Fits (k : Stock) : Type 0 where
+  pub marks : length k.marks ≤ k.most_marks
+  pub bytes : length k.bytes ≤ k.most_bytes
+  pub marks_capped : k.most_marks ≤ 1073741824
+  pub bytes_capped : k.most_bytes ≤ 1073741824
 
 -- the loan has that number
 abbrev pub is_number : ℕ → Loan → Bool

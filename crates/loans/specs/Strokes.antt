@@ -14,7 +14,7 @@ use Rattle.loans.specs.Books.{no_loan, loan_with}
 use Rattle.loans.specs.Jobs.{Book, book_of}
 use Rattle.loans.specs.declared.painting.Spot.{Spot}
 use Rattle.loans.specs.Finding.{StandsAt}
-use Rattle.loans.specs.Stocks.{Stock, stock_of, is_out, the_loan, of_loan, marks_of, are_ours}
+use Rattle.loans.specs.Stocks.{Stock, is_out, the_loan, of_loan, marks_of, are_ours}
 
 -- a job, its file and its shelves
 pub record State : Type 0 where
@@ -24,7 +24,7 @@ pub record State : Type 0 where
 
 -- what job, file and shelves of the code mean
 abbrev pub state_of : Job → List ℕ → Shelves → State
-state_of j f v = record { book = book_of j; file = f; stock = stock_of v }
+state_of j f v = record { book = book_of j; file = f; stock = v }
 
 -- the file has another length than the job's
 abbrev pub is_other_length : State → Bool

@@ -3,7 +3,7 @@ use Rattle.std.specs.Prelude.{◌≡◌, ℕ, ◌+◌, ◌<◌, ◌≤◌, true,
 use Rattle.std.specs.List.{list_any}
 use Rattle.std.proofs.Math.Seq.{paste}
 use Rattle.refusal.specs.declared.Refusal.{Refusal}
-use Rattle.shelf.specs.Calls.{without_run}
+use Rattle.shelf.specs.Runs.{without_run}
 use Rattle.loans.specs.declared.mark.Mark.{Mark}
 use Rattle.loans.specs.declared.undoing.Newest.{Newest}
 use Rattle.loans.specs.declared.undoing.Last.{Last}

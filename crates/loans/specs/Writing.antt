@@ -2,7 +2,7 @@
 use Rattle.std.specs.Prelude.{ℕ, ◌+◌, ◌-◌, slice_index_or, slice_set}
 use Rattle.dds.specs.declared.area.Area.{Area}
 use Rattle.dds.specs.declared.piece.Piece.{Piece}
-use Rattle.shelf.specs.Calls.{slid_down}
+use Rattle.shelf.specs.Runs.{slid_down}
 use Rattle.loans.specs.declared.ending.Ending.{Ending}
 use Rattle.loans.specs.declared.ending.Ending.TheVariants.{Kept, Cancelled}
 use Rattle.loans.specs.declared.ledger.Ledger.{Ledger}

@@ -2,7 +2,7 @@
 ghost use Rattle.std.specs.Prelude.{◌≡◌, ◌<◌, length};
 ghost use Rattle.loans.specs.Jobs.{book_of};
 ghost use Rattle.loans.specs.Writing.{kept_by, cancelled_by, ledger_ended};
-ghost use Rattle.loans.specs.Stocks.{stock_of, lengths, OursWhere};
+ghost use Rattle.loans.specs.Stocks.{lengths, OursWhere};
 ghost use Rattle.loans.specs.Ending.{restored, InFile};
 ghost use Rattle.loans.specs.Rules.Deed.{keep, cancel};
 ghost use Rattle.loans.specs.Calls.{Called, CalledOnAny};
@@ -43,7 +43,7 @@ impl Job {
         ensures layout { self.new.layout ≡ self.old.layout }
         ensures ledger { self.new.ledger ≡ ledger_ended self.old.ledger position
             (kept_by ending) (cancelled_by ending)
-            (length (stock_of shelves.now).marks) (length (stock_of shelves.now).bytes) }
+            (length shelves.now.marks) (length shelves.now.bytes) }
     {
         let ledger = &mut self.ledger;
         match ending {
@@ -64,7 +64,7 @@ impl Job {
         loan: u32,
         known: bool,
     ) -> Result<u32, Refusal>
-        requires { OursWhere known (book_of self.old) (stock_of shelves.old) }
+        requires { OursWhere known (book_of self.old) shelves.old }
         ensures { CalledOnAny (keep loan) self.old shelves.old result self.new shelves.new }
     {
         let position = self.position_of(loan).ok_or(Refusal::LoanNotOut)?;
@@ -84,7 +84,7 @@ impl Job {
         loan: u32,
         known: bool,
     ) -> Result<u32, Refusal>
-        requires { OursWhere known (book_of self.old) (stock_of shelves.old) }
+        requires { OursWhere known (book_of self.old) shelves.old }
         ensures { Called (cancel loan) self.old file.old shelves.old
             result self.new file.new shelves.new }
     {
@@ -97,8 +97,8 @@ impl Job {
         }
         restore(
             file,
-            shelves.marks.elements(),
-            shelves.bytes.elements(),
+            shelves.marks().elements(),
+            shelves.bytes().elements(),
             loan,
         );
         shelves.drop_loan(loan);

@@ -6,7 +6,7 @@ ghost use Rattle.loans.specs.Rules.Deed.{paint};
 ghost use Rattle.loans.specs.Calls.{Called};
 ghost use Rattle.loans.specs.Writing.{ledger_counted};
 ghost use Rattle.loans.specs.Jobs.{book_of};
-ghost use Rattle.loans.specs.Stocks.{stock_of, OursWhere};
+ghost use Rattle.loans.specs.Stocks.{Fits, OursWhere};
 ghost use Rattle.loans.specs.Finding.{Found};
 ghost use Rattle.loans.specs.Strokes.{state_of, Held, stock_with, painting_of, is_outside_row, lacks_space, PaintTested};
 
@@ -40,15 +40,16 @@ fn is_outside_row(area: Area, painting: Painting<'_>) -> bool
 impl Shelves<'_> {
     // The marks' shelf is full, or there is too little space for so many kept bytes.
     fn lack_space(&self, length: usize) -> bool
-        ensures { result ≡ lacks_space (stock_of self.now) length }
+        ensures value { result ≡ lacks_space self.now length }
+        ensures fits { Fits self.now }
     {
-        self.marks().space_left() == 0 || self.bytes().space_left() < length
+        self.marks.space_left() == 0 || self.bytes.space_left() < length
     }
 
     // Shelves a mark and the bytes that its stroke is to cover.
     fn shelve(&mut self, mark: Mark, covered: &[u8])
-        requires { lacks_space (stock_of self.old) (length covered.now) ≡ false }
-        ensures { stock_of self.new ≡ stock_with (stock_of self.old) mark covered.now }
+        requires { lacks_space self.old (length covered.now) ≡ false }
+        ensures { self.new ≡ stock_with self.old mark covered.now }
     {
         // neither refuses: there is space for both
         let _ = self.marks.put(mark);
@@ -100,7 +101,7 @@ impl Job {
         borrower: u32,
         known: bool,
     ) -> Result<usize, Refusal>
-        requires { OursWhere known (book_of self.now) (stock_of shelves.now) }
+        requires { OursWhere known (book_of self.now) shelves.now }
         ensures { Held (state_of self.now file.now shelves.now) loan borrower result }
     {
         if !self.has_length(file) {
@@ -124,7 +125,7 @@ impl Job {
         painting: Painting<'_>,
         known: bool,
     ) -> Result<Spot, Refusal>
-        requires { OursWhere known (book_of self.now) (stock_of shelves.now) }
+        requires { OursWhere known (book_of self.now) shelves.now }
         ensures { PaintTested (state_of self.now file.now shelves.now)
             (painting_of painting.entry) result }
     {
@@ -149,7 +150,7 @@ impl Job {
         requires { position < length (book_of self.old).outs }
         ensures layout { self.new.layout ≡ self.old.layout }
         ensures ledger { self.new.ledger ≡ ledger_counted self.old.ledger position strokes
-            (length (stock_of shelves.now).marks) (length (stock_of shelves.now).bytes) }
+            (length shelves.now.marks) (length shelves.now.bytes) }
     {
         let ledger = &mut self.ledger;
         ledger.loans[position].strokes = strokes;
@@ -165,7 +166,7 @@ impl Job {
         painting: Painting<'_>,
         known: bool,
     ) -> Result<u32, Refusal>
-        requires { OursWhere known (book_of self.old) (stock_of shelves.old) }
+        requires { OursWhere known (book_of self.old) shelves.old }
         ensures { Called (paint (painting_of painting.entry)) self.old file.old shelves.old
             result self.new file.new shelves.new }
     {

@@ -2,7 +2,7 @@
 ghost use Rattle.std.specs.Prelude.{◌≡◌, Some, ◌+◌, ◌≤◌, IfOk, map, length, vec_len, vec_capacity};
 ghost use Rattle.loans.specs.declared.running.RunFault.TheVariants.{Refused};
 ghost use Rattle.loans.specs.Jobs.{book_of};
-ghost use Rattle.loans.specs.Stocks.{stock_of, SameRoom, answer_limit, OursWhere};
+ghost use Rattle.loans.specs.Stocks.{SameRoom, answer_limit, OursWhere};
 ghost use Rattle.loans.specs.Strokes.{state_of};
 ghost use Rattle.loans.specs.Rules.{deed_of};
 ghost use Rattle.loans.specs.Calls.{Called};
@@ -59,7 +59,7 @@ impl Job {
         call: Call<'_>,
         known: bool,
     ) -> Result<u32, Refusal>
-        requires { OursWhere known (book_of self.old) (stock_of shelves.old) }
+        requires { OursWhere known (book_of self.old) shelves.old }
         ensures { Called (deed_of call.entry) self.old file.old shelves.old
             result self.new file.new shelves.new }
     {
@@ -84,8 +84,8 @@ impl Job {
         ensures rule { Called (deed_of call.entry) self.old file.old shelves.old
             result self.new file.new shelves.new }
         ensures handed { HandedBy (deed_of call.entry) result (book_of self.new) }
-        ensures room { SameRoom (stock_of shelves.old) (stock_of shelves.new) }
-        ensures limit { IfOk result (λ number. number ≤ answer_limit (stock_of shelves.old)) }
+        ensures room { SameRoom shelves.old shelves.new }
+        ensures limit { IfOk result (λ number. number ≤ answer_limit shelves.old) }
     {
         self.call(file, shelves, call, false)
     }
@@ -115,7 +115,7 @@ impl Job {
 impl Shelves<'_> {
     // Neither shelf holds anything.
     fn are_empty(&self) -> bool
-        ensures { result ≡ is_empty (stock_of self.now) }
+        ensures { result ≡ is_empty self.now }
     {
         self.marks.count() == 0 && self.bytes.count() == 0
     }

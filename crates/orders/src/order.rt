@@ -7,7 +7,7 @@ ghost use Rattle.orders.specs.Orders.{as_worded};
 ghost use Rattle.orders.specs.Words.{now_of};
 ghost use Rattle.orders.specs.Orders.{Parsed, EachLineIsOneOrder, HasShortDigits, deed_for};
 ghost use Rattle.loans.specs.Calls.{Called};
-ghost use Rattle.loans.specs.Stocks.{stock_of, SameRoom, answer_limit};
+ghost use Rattle.loans.specs.Stocks.{SameRoom, answer_limit};
 
 use crate::digits::Digits;
 use crate::number::value;
@@ -165,8 +165,8 @@ impl<'a> Order<'a> {
         requires { HasShortDigits self }
         ensures rule { Called (deed_for (as_worded self.entry)) job.old file.old shelves.old result
             job.new file.new shelves.new }
-        ensures room { SameRoom (stock_of shelves.old) (stock_of shelves.new) }
-        ensures limit { IfOk result (λ number. number ≤ answer_limit (stock_of shelves.old)) }
+        ensures room { SameRoom shelves.old shelves.new }
+        ensures limit { IfOk result (λ number. number ≤ answer_limit shelves.old) }
     {
         let call = match self {
             Order::Loan { piece, borrower } => Call::Loan { piece, borrower },

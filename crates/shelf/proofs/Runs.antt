@@ -1,30 +1,14 @@
--- Runs of a list within its first elements: what a shelf's memory gives for its contents.
+-- What a run moved down in a list leaves, in the list and in its first elements.
 use Rattle.std.proofs.Common.{◌≡◌, ℕ, ◌+◌, ◌-◌, ◌≤◌, List, ◌++◌, length, take, drop, arith, rules}
-use Rattle.std.proofs.lemmas.List.{take-take, drop-take, same_lists, places}
+use Rattle.std.proofs.lemmas.List.{same_lists, places}
 use Rattle.std.proofs.lemmas.List.Edits.{take-paste}
-use Rattle.shelf.specs.Calls.{slid_down, without_run}
+use Rattle.shelf.specs.Runs.{slid_down, without_run}
 
 module _ {X : Type 0} where
-  -- a run within the first elements is the memory's
-  pub run_within : (xs : List X) (held position count : ℕ) → position + count ≤ held
-      → take (position + count - position) (drop position xs) ≡ take count (drop position (take held xs))
-  run_within xs held position count inside =
-      let rest : ℕ = held - position in
-      let same : position + count - position ≡ count = omega arith in
-      let whole : held ≡ position + rest = omega arith in
-      let fewer : count ≤ rest = omega arith in
-      let cut : drop position (take (position + rest) xs) ≡ take rest (drop position xs) = drop-take position rest xs in
-      let first : take count (take rest (drop position xs)) ≡ take count (drop position xs) = take-take count rest (drop position xs) fewer in
-      cc
-
   -- a run moved down in the memory is moved in the first elements
   pub slid_within : (xs : List X) (held from count to : ℕ) → to ≤ from → from + count ≤ held → held ≤ length xs
       → take held (slid_down from count to xs) ≡ slid_down from count to (take held xs)
   slid_within xs held from count to down inside lent = same_lists _ _ (search (rules, places)) (λ k d h. grind (arith, places))
-
-  -- the memory stays as large
-  pub length-slid_down : (xs : List X) (from count to : ℕ) → to ≤ from → from + count ≤ length xs → length (slid_down from count to xs) ≡ length xs
-  length-slid_down xs from count to down inside = grind (arith, places)
 
   -- where the last elements are moved down, what is behind them no longer counts
   pub slid_off : (xs : List X) (held position count behind : ℕ) → position + count + behind ≡ held → held ≤ length xs

@@ -1,3 +1,2 @@
-pub mod Model
-pub mod Laws
-pub mod Calls
+pub mod Held
+pub mod Runs

@@ -1,12 +1,14 @@
 // Shelves: bounded lists of elements of one kind, in order, in memory that the caller lends.
 #![tactic(auto)]
 
-ghost use Rattle.std.specs.Prelude.{◌≡◌, ℕ, ◌+◌, ◌<◌, ◌≤◌, length, nat_le, slice_set};
-ghost use Rattle.shelf.specs.Model.{contents, count_of, capacity_of, space_of};
-ghost use Rattle.shelf.specs.Laws.{WithinMemory};
-ghost use Rattle.shelf.specs.Calls.{New, Put, PutAll, Read, Part, TakeOff, Slide, Truncate, laid_at, slid_down};
+ghost use Rattle.std.specs.Prelude.{◌≡◌, ◌↔◌, ℕ, ◌+◌, ◌-◌, ◌<◌, ◌≤◌, min, [], ◌∷◌, ◌++◌, length, take, drop, nat_le, slice_get, slice_set, Some, IsOk, IfOk, OnOk, IfErr, OnErr};
+ghost use Rattle.std.proofs.Math.Seq.{paste};
+ghost use Rattle.refusal.specs.declared.Refusal.TheVariants.{ShelfFull, PastCount};
+ghost use Rattle.shelf.specs.Held.{IsBounded};
+ghost use Rattle.shelf.specs.Runs.{without_run, slid_down};
 
 use refusal::Refusal;
+use std::marker::Model;
 
 #[cfg(test)]
 mod tests;
@@ -14,9 +16,8 @@ mod tests;
 // The most elements that a shelf holds, however large its memory.
 const MOST: usize = 1_073_741_824;
 
-/// Holds the first `count` elements of the memory; what stands past them is nobody's. What it holds is defined for any
-/// count, also one past the capacity, so that no shelf is out of line. So `WithinMemory` holds of each by the definitions alone, and
-/// no ghost field could say it of the whole shelf: the calls that read one tell it to their callers.
+/// A list of elements in lent memory, and the most elements that it can hold: as many as the memory holds, and at most
+/// 1,073,741,824. Each call that is handed one, or makes one, tells that it holds no more (`IsBounded`).
 #[derive(Drop)]
 pub struct Shelf<'a, T> {
     // lent, with a count beside it: a Vec would own its memory
@@ -24,113 +25,144 @@ pub struct Shelf<'a, T> {
     count: usize,
 }
 
+// The elements are the front of the memory, as far as the count goes; what stands past them is nobody's.
+impl<'a, T> Model for Shelf<'a, T> {
+    ghost use Rattle.std.specs.Prelude.{◌≤◌, length, take, min};
+    ghost use Rattle.shelf.specs.Held.{Held};
+
+    ghost Value = { Held T };
+
+    ghost view = { λ s. record {
+      items = take s.count s.memory.now;
+      most = min (length s.memory.now) 1073741824;
+    } };
+
+    ghost invariant = { λ s. s.count ≤ min (length s.memory.now) 1073741824 };
+}
+
 impl<'a, T: Copy> Shelf<'a, T> {
     /// A shelf that holds none.
-    #[tactic(auto, unfolding(crate::specs::Model::capacity_of, crate::specs::Model::count_of, crate::specs::Model::contents))]
     pub fn new(memory: &'a mut [T]) -> Shelf<'a, T>
-        ensures { New memory.old result }
+        ensures items { result.items ≡ [] }
+        ensures most { result.most ≡ min (length memory.old) 1073741824 }
+        ensures bounded { IsBounded result }
     {
         Shelf { memory, count: 0 }
     }
 
     /// How many elements it can hold.
-    #[tactic(auto, unfolding(crate::specs::Model::capacity_of))]
     pub fn capacity(&self) -> usize
-        ensures value { result ≡ capacity_of self.now }
-        ensures within { WithinMemory self.now }
+        ensures value { result ≡ self.now.most }
+        ensures bounded { IsBounded self.now }
     {
         self.memory.len().min(MOST)
     }
 
     /// How many elements it holds.
-    #[tactic(auto, unfolding(crate::specs::Model::count_of))]
     pub fn count(&self) -> usize
-        ensures value { result ≡ count_of self.now }
-        ensures within { WithinMemory self.now }
+        ensures value { result ≡ length self.now.items }
+        ensures bounded { IsBounded self.now }
     {
-        self.count.min(self.capacity())
+        self.count // never past the capacity, by its type
     }
 
     /// How many more elements it can hold.
     pub fn space_left(&self) -> usize
-        ensures value { result ≡ space_of self.now }
-        ensures within { WithinMemory self.now }
+        ensures value { result ≡ self.now.most - length self.now.items }
+        ensures bounded { IsBounded self.now }
     {
-        self.capacity() - self.count()
+        self.capacity() - self.count
     }
 
     /// Its elements, lent for reading.
-    #[tactic(auto, unfolding(crate::specs::Model::contents))]
     pub fn elements(&self) -> &[T]
-        ensures value { result.now ≡ contents self.now }
-        ensures within { WithinMemory self.now }
+        ensures value { result.now ≡ self.now.items }
+        ensures bounded { IsBounded self.now }
     {
-        let count = self.count();
-        &self.memory[0..count]
+        &self.memory[..self.count]
     }
 
     /// Adds an element at the end, and answers the new count. Refuses with ShelfFull.
     pub fn put(&mut self, element: T) -> Result<usize, Refusal>
-        ensures { Put self.old element result self.new }
+        ensures fits { IsOk result ↔ (length self.old.items < self.old.most) }
+        ensures answer { IfOk result (λ n. n ≡ length self.new.items) }
+        ensures refusal { IfErr result (λ e. e ≡ ShelfFull) }
+        ensures items { OnOk result (self.new.items ≡ self.old.items ++ element ∷ []) }
+        ensures most { self.new.most ≡ self.old.most }
+        ensures bounded { IsBounded self.new }
+        ensures unchanged { OnErr result (self.new ≡ self.old) }
     {
         if self.space_left() == 0 {
             return Err(Refusal::ShelfFull);
         }
-        let count = self.count();
-        store(self.memory, count, element);
-        self.count = count + 1;
-        Ok(count + 1)
+        store(self.memory, self.count, element);
+        self.count += 1;
+        Ok(self.count)
     }
 
     /// Adds all of the elements at the end, and answers the new count. Refuses with ShelfFull where they do not all fit, and
     /// then adds none.
     pub fn put_all(&mut self, elements: &[T]) -> Result<usize, Refusal>
-        ensures { PutAll self.old elements.now result self.new }
+        ensures fits { IsOk result ↔ (length self.old.items + length elements.now ≤ self.old.most) }
+        ensures answer { IfOk result (λ n. n ≡ length self.new.items) }
+        ensures refusal { IfErr result (λ e. e ≡ ShelfFull) }
+        ensures items { OnOk result (self.new.items ≡ self.old.items ++ elements.now) }
+        ensures most { self.new.most ≡ self.old.most }
+        ensures bounded { IsBounded self.new }
+        ensures unchanged { OnErr result (self.new ≡ self.old) }
     {
         if elements.len() > self.space_left() {
             return Err(Refusal::ShelfFull);
         }
-        let count = self.count();
-        lay(self.memory, count, elements);
-        self.count = count + elements.len();
-        Ok(count + elements.len())
+        lay(self.memory, self.count, elements);
+        self.count += elements.len();
+        Ok(self.count)
     }
 
     // The run of `count` elements at `position` ends within what the shelf holds. Their sum could wrap, so the difference is compared.
     fn has_run(&self, position: usize, count: usize) -> bool
-        ensures value { result ≡ nat_le (position + count) (count_of self.now) }
-        ensures within { WithinMemory self.now }
+        ensures value { result ≡ nat_le (position + count) (length self.now.items) }
+        ensures bounded { IsBounded self.now }
     {
-        let held = self.count();
-        position <= held && count <= held - position
+        position <= self.count && count <= self.count - position
     }
 
     /// The run of `count` elements at `position`, lent for reading. Refuses with PastCount.
-    #[tactic(auto, using(crate::proofs::Runs::run_within), unfolding(crate::specs::Model::contents))]
     pub fn part(&self, position: usize, count: usize) -> Result<&[T], Refusal>
-        ensures { Part self.now position count result }
+        ensures inside { IsOk result ↔ (position + count ≤ length self.now.items) }
+        ensures run { IfOk result (λ r. r.now ≡ take count (drop position self.now.items)) }
+        ensures refusal { IfErr result (λ e. e ≡ PastCount) }
     {
         if !self.has_run(position, count) {
             return Err(Refusal::PastCount);
         }
-        Ok(&self.memory[position..position + count])
+        Ok(&self.elements()[position..position + count])
     }
 
     /// The element at a position. Refuses with PastCount.
     pub fn read(&self, position: usize) -> Result<T, Refusal>
-        ensures { Read self.now position result }
+        ensures inside { IsOk result ↔ (position < length self.now.items) }
+        ensures element { IfOk result (λ x. slice_get self.now.items position ≡ Some x) }
+        ensures refusal { IfErr result (λ e. e ≡ PastCount) }
     {
-        let found = self.part(position, 1)?;
-        Ok(found[0])
+        self.elements()
+            .get(position)
+            .copied()
+            .ok_or(Refusal::PastCount)
     }
 
     /// Moves the run of `count` elements at `from` down to `to`, over what stood there; how many it holds stays. Refuses with
     /// PastCount, also where `to` is past `from`. Many gaps are closed in one pass by sliding down each run that stays, from
     /// the first on, and then truncating.
     pub fn slide(&mut self, from: usize, count: usize, to: usize) -> Result<(), Refusal>
-        ensures { Slide self.old from count to result self.new }
+        ensures inside { IsOk result ↔ ((to ≤ from) × (from + count ≤ length self.old.items)) }
+        ensures refusal { IfErr result (λ e. e ≡ PastCount) }
+        ensures items { OnOk result (self.new.items ≡ slid_down from count to self.old.items) }
+        ensures most { self.new.most ≡ self.old.most }
+        ensures bounded { IsBounded self.new }
+        ensures unchanged { OnErr result (self.new ≡ self.old) }
     {
-        if to > from || !self.has_run(from, count) {
+        if !self.has_run(from, count) || to > from {
             return Err(Refusal::PastCount);
         }
         move_down(self.memory, from, count, to);
@@ -139,9 +171,15 @@ impl<'a, T: Copy> Shelf<'a, T> {
 
     /// Keeps the first `count` elements, and answers their count. Refuses with PastCount.
     pub fn truncate(&mut self, count: usize) -> Result<usize, Refusal>
-        ensures { Truncate self.old count result self.new }
+        ensures inside { IsOk result ↔ (count ≤ length self.old.items) }
+        ensures answer { IfOk result (λ n. n ≡ length self.new.items) }
+        ensures refusal { IfErr result (λ e. e ≡ PastCount) }
+        ensures items { OnOk result (self.new.items ≡ take count self.old.items) }
+        ensures most { self.new.most ≡ self.old.most }
+        ensures bounded { IsBounded self.new }
+        ensures unchanged { OnErr result (self.new ≡ self.old) }
     {
-        if count > self.count() {
+        if count > self.count {
             return Err(Refusal::PastCount);
         }
         self.count = count;
@@ -150,16 +188,21 @@ impl<'a, T: Copy> Shelf<'a, T> {
 
     /// Removes the run of `count` elements at `position`, closes the gap, and answers the new count. Refuses with PastCount.
     pub fn take_off(&mut self, position: usize, count: usize) -> Result<usize, Refusal>
-        ensures { TakeOff self.old position count result self.new }
+        ensures inside { IsOk result ↔ (position + count ≤ length self.old.items) }
+        ensures answer { IfOk result (λ n. n ≡ length self.new.items) }
+        ensures refusal { IfErr result (λ e. e ≡ PastCount) }
+        ensures items { OnOk result (self.new.items ≡ without_run position count self.old.items) }
+        ensures most { self.new.most ≡ self.old.most }
+        ensures bounded { IsBounded self.new }
+        ensures unchanged { OnErr result (self.new ≡ self.old) }
     {
         if !self.has_run(position, count) {
             return Err(Refusal::PastCount);
         }
         let end = position + count;
-        let held = self.count();
-        move_down(self.memory, end, held - end, position);
-        self.count = held - count;
-        Ok(held - count)
+        move_down(self.memory, end, self.count - end, position);
+        self.count -= count;
+        Ok(self.count)
     }
 }
 
@@ -174,7 +217,7 @@ fn store<T: Copy>(memory: &mut [T], position: usize, element: T)
 // Lays elements from a position on.
 fn lay<T: Copy>(memory: &mut [T], position: usize, elements: &[T])
     requires { position + length elements.now ≤ length memory.old }
-    ensures { memory.new ≡ laid_at position elements.now memory.old }
+    ensures { memory.new ≡ paste memory.old position elements.now (length elements.now) }
 {
     let end = position + elements.len();
     memory[position..end].copy_from_slice(elements);

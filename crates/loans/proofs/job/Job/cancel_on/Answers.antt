@@ -1,7 +1,6 @@
 use Rattle.std.proofs.Common.{◌≡◌, ℕ, List, length, sym, ◌∙◌, subst, ap₂, subst₂}
 use Rattle.std.proofs.lemmas.Bool.{eqb-true}
 use Rattle.loans.specs.declared.mark.Mark.{Mark}
-use Rattle.loans.specs.Stocks.{stock_of}
 use Rattle.loans.specs.Books.{outs}
 use Rattle.loans.specs.Finding.{Found}
 use Rattle.loans.specs.Ending.{InFile, restored}
@@ -12,8 +11,8 @@ use Rattle.loans.proofs.job.Job.cancel_on.Goals as goal
 pub restore-requires-clause-inside : goal.restore-requires-clause-inside
 restore-requires-clause-inside c =
     let sized : length c.args.file.now ≡ c.args.self.now.layout.table.length = eqb-true _ _ (sym c.if-not-has_length.ensures) in
-    subst₂ (λ (n : ℕ) (ms : List Mark). InFile n ms) (sym sized) (sym c.elements.ensures.value)
-    (marks_in_file c.args.self.now (stock_of c.args.shelves.now) (sym c.if-not-owns_or_knows.ensures))
+    subst₂ (λ (n : ℕ) (ms : List Mark). InFile n ms) (sym sized) (sym (c.elements.ensures.value ∙ c.marks.ensures.held))
+    (marks_in_file c.args.self.now c.args.shelves.now (sym c.if-not-owns_or_knows.ensures))
 
 pub returns : goal.returns
 returns c =
@@ -25,4 +24,4 @@ returns c =
       ledger = c.end_loan.ensures.ledger;
     })
     (eqb-true _ _ (sym c.if-not-has_length.ensures))
-    (c.restore.ensures ∙ ap₂ (λ (ms : List Mark) (ks : List ℕ). restored c.args.loan c.args.file.now ms ks) c.elements.ensures.value c.elements-2.ensures.value)
+    (c.restore.ensures ∙ ap₂ (λ (ms : List Mark) (ks : List ℕ). restored c.args.loan c.args.file.now ms ks) (c.elements.ensures.value ∙ c.marks.ensures.held) (c.elements-2.ensures.value ∙ c.bytes.ensures.held))

@@ -1,5 +1,4 @@
-use Rattle.std.proofs.Common.{List, Option, ap, ◌∙◌, subst₂}
-use Rattle.shelf.specs.Model.{contents}
+use Rattle.std.proofs.Common.{List, Option, ◌∙◌, subst₂}
 use Rattle.loans.specs.declared.mark.Mark.{Mark}
 use Rattle.loans.specs.declared.undoing.Newest.{Newest}
 use Rattle.loans.specs.Taking.{FoundNewest}
@@ -9,7 +8,7 @@ use Rattle.loans.proofs.job.Job.last_stroke.Goals as goal
 pub returns : goal.returns
 returns c =
     let found =
-    subst₂ (λ (ms : List Mark) (r : Option Newest). FoundNewest ms c.args.loan r) (c.elements-marks.ensures.value ∙ ap contents c.marks.ensures)
+    subst₂ (λ (ms : List Mark) (r : Option Newest). FoundNewest ms c.args.loan r) (c.elements-marks.ensures.value ∙ c.marks.ensures.held)
     c.in_ok-newest.ensures.ok_part c.newest_of.ensures in
     undo_at c.args.self.now c.args.file.now c.args.shelves.now c.args.loan c.args.borrower c.in_ok-position.position
     c.in_ok-newest.newest.position c.in_ok-newest.newest.begin c.in_ok-position.ensures found

@@ -12,8 +12,8 @@ returns c =
     let p = painting_of c.args.painting in
     let is : c.loan_at-loan.result ≡ the_loan (outs c.args.self.now.ledger) c.args.painting.loan =
     c.loan_at-loan.ensures.value ∙ sym c.in_ok-position.ensures.loan.found in
-    paint_at c.args.self.now c.args.file.now c.args.shelves.now p c.in_ok-position.position _
+    paint_at c.args.self.now c.args.file.now c.args.shelves.now p c.in_ok-position.position _ c.if-lack_space.ensures.fits
     (c.in_ok-position.ensures.next _
     ∙ cond-false _ _ _ (ap (λ (l : Loan). is_outside_row l.area p) (sym is) ∙ sym c.if-is_outside_row.ensures)
-    ∙ cond-false _ _ _ (sym c.if-lack_space.ensures))
+    ∙ cond-false _ _ _ (sym c.if-lack_space.ensures.value))
     c.in_ok-position.ensures.loan (ap (λ (l : Loan). stroke_place l.area p) is)
