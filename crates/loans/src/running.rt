@@ -1,7 +1,6 @@
 // Running a list of calls on a newly opened job.
 ghost use Rattle.std.specs.Prelude.{◌≡◌, Some, ◌+◌, ◌≤◌, map, length, vec_len, vec_capacity};
 ghost use Rattle.loans.specs.declared.running.RunFault.TheVariants.{Refused};
-ghost use Rattle.loans.specs.Jobs.{book_of};
 ghost use Rattle.loans.specs.Stocks.{OursWhere};
 ghost use Rattle.loans.specs.Strokes.{state_of};
 ghost use Rattle.loans.specs.Rules.{deed_of};
@@ -59,9 +58,10 @@ impl Job {
         call: Call<'_>,
         known: bool,
     ) -> Result<u32, Refusal>
-        requires { OursWhere known (book_of self.old) shelves.old }
-        ensures { Called (deed_of call.entry) self.old file.old shelves.old
+        requires { OursWhere known self.old shelves.old }
+        ensures rule { Called (deed_of call.entry) self.old file.old shelves.old
             result self.new file.new shelves.new }
+        ensures handed { HandedBy (deed_of call.entry) result self.new }
     {
         match call {
             Call::Loan { piece, borrower } => self.loan(piece, borrower),
@@ -81,7 +81,7 @@ impl Job {
     ) -> Result<u32, Refusal>
         ensures rule { Called (deed_of call.entry) self.old file.old shelves.old
             result self.new file.new shelves.new }
-        ensures handed { HandedBy (deed_of call.entry) result (book_of self.new) }
+        ensures handed { HandedBy (deed_of call.entry) result self.new }
     {
         self.call(file, shelves, call, false)
     }
