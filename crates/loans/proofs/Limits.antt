@@ -1,13 +1,10 @@
 -- What no call exceeds: the shelves can hold as much after it as before, and its number is at most the limit.
 use Rattle.std.proofs.Common.{ℕ, suc, ◌≤◌, Bool, true, false, cond, List, [], ◌∷◌, length, Some, None, Option, Ok, Err, Result, sym, refl, ap, ◌∙◌, subst, arith, length-take-le}
 use Rattle.std.specs.Prelude.{IfOk}
-use Rattle.shelf.proofs.Shelves.{counted, count_within}
 use Rattle.refusal.specs.declared.Refusal.{Refusal}
-use Rattle.loans.specs.declared.job.Job.{Job}
-use Rattle.loans.specs.declared.mark.Mark.{Mark}
-use Rattle.loans.specs.declared.mark.Shelves.{Shelves}
+use Rattle.loans.specs.Jobs.{Book, Orderly}
 use Rattle.loans.specs.Calls.{Called}
-use Rattle.loans.specs.Stocks.{Stock, SameRoom, answer_limit, of_loan, marks_of}
+use Rattle.loans.specs.Stocks.{Stock, Fits, SameRoom, answer_limit}
 use Rattle.loans.specs.Strokes.{State, state_of}
 use Rattle.loans.specs.Rules.{Deed, number_for, left, after, after_all, call_refusal, carried_out}
 use Rattle.loans.specs.Rules.Deed.{lend, paint, undo, keep, cancel}
@@ -42,19 +39,11 @@ same_after_all s (d ∷ ds) = same_then (same_after s d) (same_after_all (after 
 
 -- ---- a number is at most the limit
 
--- what a job counts, and what its shelf of marks holds
+-- what holds of a job's book and of its shelves, as far as a number goes by it
 record Counted (s : State) : Type 0 where
   granted : s.book.granted ≤ 65535
   outs : length s.book.outs ≤ 32
   marks : length s.stock.marks ≤ s.stock.most_marks
-
-counted_state : (j : Job) (f : List ℕ) (v : Shelves) → Counted (state_of j f v)
-counted_state j f v =
-    record {
-      granted = j.balanced.2;
-      outs = omega (arith, length-take-le j.ledger.out j.ledger.loans (omega (arith, j.balanced.0, j.balanced.1)), j.balanced.1);
-      marks = omega (arith, counted v.marks, count_within v.marks);
-    }
 
 number_within : (s : State) → Counted s → (d : Deed) → number_for s d ≤ answer_limit s.stock
 number_within s c (lend p who) = omega (arith, c.granted)
@@ -63,13 +52,14 @@ number_within s c (undo n who) = omega (arith, c.marks, marks_few n s.stock.mark
 number_within s c (keep n) = omega (arith, c.outs)
 number_within s c (cancel n) = omega (arith, c.outs)
 
-module _ (d : Deed) (j j' : Job) (f f' : List ℕ) (v v' : Shelves) (r : Result ℕ Refusal) (c : Called d j f v r j' f' v') where
-  pub called_room : SameRoom v v'
-  called_room =
+module _ (d : Deed) (j j' : Book) (f f' : List ℕ) (v v' : Stock) where
+  pub called_room : (r : Result ℕ Refusal) → Called d j f v r j' f' v' → SameRoom v v'
+  called_room r c =
       subst (λ (s : State). SameRoom v s.stock) (sym (called_state d j j' f f' v v' r c)) (same_after (state_of j f v) d)
 
-pub called_within : (d : Deed) (j j' : Job) (f f' : List ℕ) (v v' : Shelves) (r : Result ℕ Refusal) → Called d j f v r j' f' v' → IfOk r (λ n. n ≤ answer_limit v)
-called_within d j j' f f' v v' (Ok n) c =
-    let same = called_room d j j' f f' v v' (Ok n) c in
-    omega (arith, same.marks, c.answer, ap (λ (s : State). number_for s d) c.state, number_within (state_of j' f' v') (counted_state j' f' v') d)
-called_within d j j' f f' v v' (Err e) c = tt
+  pub called_within : Orderly j' → Fits v' → (r : Result ℕ Refusal) → Called d j f v r j' f' v' → IfOk r (λ n. n ≤ answer_limit v)
+  called_within orderly fits (Ok n) c =
+      let same = called_room (Ok n) c in
+      let counted : Counted (state_of j' f' v') = record { granted = orderly.numbers; outs = orderly.few; marks = fits.marks } in
+      omega (arith, same.marks, c.answer, ap (λ (s : State). number_for s d) c.state, number_within (state_of j' f' v') counted d)
+  called_within orderly fits (Err e) c = tt

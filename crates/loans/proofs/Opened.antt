@@ -4,7 +4,6 @@ use Rattle.refusal.specs.declared.Refusal.{Refusal}
 use Rattle.formats.specs.declared.kinds.FormatName.{FormatName}
 use Rattle.dds.specs.declared.header.Header.{Header}
 use Rattle.dds.specs.declared.layout.Layout.{Layout}
-use Rattle.dds.specs.declared.table.Table.{Table}
 use Rattle.dds.specs.Headers.{header_read, header_name}
 use Rattle.dds.specs.Layouts.{OpenedAs, OpenedIn, OpenedBy}
 use Rattle.loans.specs.Jobs.{Book, fresh_book}
@@ -33,16 +32,16 @@ pub is_empty_stock : (k : Stock) {most_marks most_bytes : ℕ} → k.marks ≡ [
     → k ≡ empty_stock most_marks most_bytes
 is_empty_stock k a b c d = λ i. record { marks = a i; bytes = b i; most_marks = c i; most_bytes = d i }
 
-pub opened_is : {b : Book} {k m : Stock} (t : Table) (number : ℕ) (f : List ℕ) → b ≡ fresh_book t (Some number) → k ≡ m
-    → record { book = b; file = f; stock = k } ≡ opened_state t number f m
-opened_is t number f e h = λ i. record { book = e i; file = f; stock = h i }
+pub opened_is : {b : Book} {k m : Stock} (y : Layout) (number : ℕ) (f : List ℕ) → b ≡ fresh_book y (Some number) → k ≡ m
+    → record { book = b; file = f; stock = k } ≡ opened_state y number f m
+opened_is y number f e h = λ i. record { book = e i; file = f; stock = h i }
 
 -- after every list of calls file and shelves are the job's
 pub home_run : (y : Layout) (number : ℕ) (file : List ℕ) (k : Stock) (ds : List Deed) → length file ≡ y.table.length → k.marks ≡ [] → k.bytes ≡ []
-    → AtHome (after_all (opened_state y.table number file k) ds)
+    → AtHome (after_all (opened_state y number file k) ds)
 home_run y number file k ds e a b =
     let ours = ours_run y number file k ds e a b in
     record {
-      sized = ours.1 ∙ sym (ap (λ (t : Table). t.length) (law_run y number file k ds e a b).table);
+      sized = ours.1 ∙ sym (ap (λ (x : Layout). x.table.length) (law_run y number file k ds e a b).layout);
       ours = ours.0;
     }

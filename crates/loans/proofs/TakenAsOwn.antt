@@ -36,7 +36,7 @@ module _ (s : State) (same : is_other_length s ≡ false) (ours : are_ours s.boo
 
   pub not_anothers : (d : Deed) → NotAnothers (call_refusal s d)
   not_anothers (lend p who) =
-      tested (not (exists_in s.book.table p)) _ _ (omega arith, omega arith)
+      tested (not (exists_in s.book.layout.table p)) _ _ (omega arith, omega arith)
       (tested (piece_is_out s.book.outs p) _ _ (omega arith, omega arith)
       (tested (leb 32 (length s.book.outs)) _ _ (omega arith, omega arith)
       (tested (leb 65535 s.book.granted) _ _ (omega arith, omega arith) (omega arith, omega arith))))

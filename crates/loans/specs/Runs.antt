@@ -3,7 +3,6 @@ use Rattle.std.specs.Prelude.{◌≡◌, ℕ, ◌+◌, ◌<◌, ◌≤◌, Bool,
 use Rattle.refusal.specs.declared.Refusal.{Refusal}
 use Rattle.refusal.specs.Meanings.{refusal_text}
 use Rattle.dds.specs.declared.layout.Layout.{Layout}
-use Rattle.dds.specs.declared.table.Table.{Table}
 use Rattle.dds.specs.Layouts.{Opened}
 use Rattle.loans.specs.declared.docket.Docket.{Docket}
 use Rattle.loans.specs.declared.job.Job.{Job}
@@ -18,8 +17,8 @@ use Rattle.loans.specs.History.{history_of}
 use Rattle.loans.specs.Law.{Law}
 
 -- a job just opened on a file, with shelves
-abbrev pub opened_state : Table → ℕ → List ℕ → Stock → State
-opened_state t number file k = record { book = fresh_book t (Some number); file = file; stock = k }
+abbrev pub opened_state : Layout → ℕ → List ℕ → Stock → State
+opened_state y number file k = record { book = fresh_book y (Some number); file = file; stock = k }
 
 -- neither shelf holds anything
 abbrev pub is_empty : Stock → Bool
@@ -61,8 +60,8 @@ pub record RanSo (o : Ordered) (d : Docket) (t : State) (all : List (Result ℕ 
   pub given : List (Result ℕ Refusal)
   pub answers : all ≡ o.old ++ given
   pub each : length given ≡ length o.calls
-  pub by_rules : given ≡ answers_to (opened_state layout.table o.number o.file o.shelves) o.calls
-  pub state : t ≡ after_all (opened_state layout.table o.number o.file o.shelves) o.calls
+  pub by_rules : given ≡ answers_to (opened_state layout o.number o.file o.shelves) o.calls
+  pub state : t ≡ after_all (opened_state layout o.number o.file o.shelves) o.calls
   pub same_room : SameRoom o.shelves t.stock
   pub law : o.shelves.marks ≡ [] → o.shelves.bytes ≡ []
       → Law layout o.number o.shelves.most_marks o.shelves.most_bytes o.file (history_of o.calls given) t

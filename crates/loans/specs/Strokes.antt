@@ -6,12 +6,10 @@ use Rattle.refusal.specs.declared.Refusal.{Refusal}
 use Rattle.refusal.specs.declared.Refusal.TheVariants.{OtherLength, LoanNotOut, OtherBorrower, ForeignShelves, OutsideRow, NoSpace, NothingToUndo}
 use Rattle.dds.specs.declared.area.Area.{Area}
 use Rattle.loans.specs.declared.call.Painting as Call
-use Rattle.loans.specs.declared.job.Job.{Job}
 use Rattle.loans.specs.declared.ledger.Loan.{Loan}
 use Rattle.loans.specs.declared.mark.Mark.{Mark}
-use Rattle.loans.specs.declared.mark.Shelves.{Shelves}
 use Rattle.loans.specs.Books.{no_loan, loan_with}
-use Rattle.loans.specs.Jobs.{Book, book_of}
+use Rattle.loans.specs.Jobs.{Book, Orderly}
 use Rattle.loans.specs.declared.painting.Spot.{Spot}
 use Rattle.loans.specs.Finding.{StandsAt}
 use Rattle.loans.specs.Stocks.{Stock, is_out, the_loan, of_loan, marks_of, are_ours}
@@ -22,13 +20,13 @@ pub record State : Type 0 where
   pub file : List ℕ
   pub stock : Stock
 
--- what job, file and shelves of the code mean
-abbrev pub state_of : Job → List ℕ → Shelves → State
-state_of j f v = record { book = book_of j; file = f; stock = v }
+-- the state of a job, its file and its shelves
+abbrev pub state_of : Book → List ℕ → Stock → State
+state_of b f k = record { book = b; file = f; stock = k }
 
 -- the file has another length than the job's
 abbrev pub is_other_length : State → Bool
-is_other_length s = not (length s.file == s.book.table.length)
+is_other_length s = not (length s.file == s.book.layout.table.length)
 
 -- what a borrower's call on a loan is refused with first: another length, the loan not out, another borrower, foreign shelves; where
 -- none of these applies, with what comes after them
@@ -39,12 +37,13 @@ held_else s n who rest =
     (cond (not ((the_loan s.book.outs n).borrower == who)) (Some OtherBorrower)
     (cond (not (are_ours s.book s.stock)) (Some ForeignShelves) rest)))
 
--- the position of a loan that the borrower holds
+-- the position of a loan that the borrower holds, of a job's book
 pub record HeldAt (s : State) (n who k : ℕ) : Type 0 where
   pub next : (rest : Option Refusal) → held_else s n who rest ≡ rest
   pub loan : StandsAt s.book.outs n k
-  pub sized : length s.file ≡ s.book.table.length
+  pub sized : length s.file ≡ s.book.layout.table.length
   pub ours : are_ours s.book s.stock ≡ true
+  pub orderly : Orderly s.book
 
 -- the position of the loan, or the first of the four refusals that applies, whatever comes after them
 abbrev pub Held : State → ℕ → ℕ → Result ℕ Refusal → Type 0

@@ -1,7 +1,7 @@
 // Opening a job, and asking where its pieces stand.
 ghost use Rattle.std.specs.Prelude.{◌≡◌, Option, OnOk, length};
 ghost use Rattle.dds.specs.Places.{WhereIs, where_in, WhoseIs, Shown};
-ghost use Rattle.loans.specs.Jobs.{book_of, fresh_book, empty_book, report_of, IsBalanced};
+ghost use Rattle.loans.specs.Jobs.{fresh_book, IsEmpty, report_of, IsBalanced};
 ghost use Rattle.loans.specs.Opening.{OpenedWith, OpenedWithCodes};
 
 use crate::docket::Docket;
@@ -14,8 +14,7 @@ use refusal::Refusal;
 impl Job {
     // A job with no loans over a layout.
     pub(crate) fn fresh(layout: Layout, number: Option<u32>) -> Job
-        ensures layout { result.layout ≡ layout }
-        ensures book { book_of result ≡ fresh_book layout.table number }
+        ensures { result ≡ fresh_book layout number }
     {
         Job {
             layout,
@@ -34,7 +33,7 @@ impl Job {
 
     /// A job that holds no file.
     pub fn empty() -> Job
-        ensures { book_of result ≡ empty_book }
+        ensures { IsEmpty result }
     {
         Job::fresh(Layout::empty(), None)
     }
@@ -49,7 +48,7 @@ impl Job {
     ) -> Result<Docket, Refusal>
         ensures opened { OpenedWith file.now number (F.row_bytes family.now) (F.rows family.now)
             self.old result self.new }
-        ensures length { OnOk result (length file.now ≡ (book_of self.new).table.length) }
+        ensures length { OnOk result (length file.now ≡ self.new.layout.table.length) }
     {
         let layout = Layout::read_with(FileHead::of(file), family)?;
         *self = Job::fresh(layout, Some(number));
@@ -67,7 +66,7 @@ impl Job {
     ) -> Result<Docket, Refusal>
         ensures opened { OpenedWithCodes file.now number (T.name_at codes.now)
             self.old result self.new }
-        ensures length { OnOk result (length file.now ≡ (book_of self.new).table.length) }
+        ensures length { OnOk result (length file.now ≡ self.new.layout.table.length) }
     {
         let layout = Layout::read(FileHead::of(file), codes)?;
         *self = Job::fresh(layout, Some(number));
@@ -77,7 +76,7 @@ impl Job {
     /// Where a piece stands. Refuses with NoSuchPiece.
     pub fn where_is(&self, piece: Piece) -> Result<Area, Refusal>
         ensures value { WhereIs self.now.layout piece result }
-        ensures exact { result ≡ where_in (book_of self.now).table piece }
+        ensures exact { result ≡ where_in self.now.layout.table piece }
     {
         self.layout.place_of(piece)
     }
@@ -98,7 +97,7 @@ impl Job {
 
     /// The job's counts of its loans.
     pub fn report(&self) -> Report
-        ensures value { result ≡ report_of (book_of self.now) }
+        ensures value { result ≡ report_of self.now }
         ensures balance { IsBalanced result }
     {
         let ledger = &self.ledger;
