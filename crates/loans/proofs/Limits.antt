@@ -7,7 +7,7 @@ use Rattle.loans.specs.Calls.{Called}
 use Rattle.loans.specs.Stocks.{Stock, Fits, SameRoom, answer_limit}
 use Rattle.loans.specs.Strokes.{State, state_of}
 use Rattle.loans.specs.Rules.{Deed, number_for, left, after, after_all, call_refusal, carried_out}
-use Rattle.loans.specs.Rules.Deed.{lend, paint, undo, keep, cancel}
+use Rattle.loans.specs.Rules.Deed.{lend, paint, undo}
 use Rattle.loans.proofs.Tallying.{marks_few}
 use Rattle.loans.proofs.Calling.{called_state}
 
@@ -21,10 +21,7 @@ same_then a b = record { marks = b.marks ∙ a.marks; bytes = b.bytes ∙ a.byte
 
 same_carried : (s : State) (d : Deed) → SameRoom s.stock (carried_out s d).stock
 same_carried s (lend p who) = record { marks = refl; bytes = refl }
-same_carried s (paint p) = record { marks = refl; bytes = refl }
-same_carried s (undo n who) = record { marks = refl; bytes = refl }
-same_carried s (keep n) = record { marks = refl; bytes = refl }
-same_carried s (cancel n) = record { marks = refl; bytes = refl }
+same_carried s d = record { marks = refl; bytes = refl }
 
 same_after : (s : State) (d : Deed) → SameRoom s.stock (after s d).stock
 same_after s d = go (call_refusal s d)
@@ -49,8 +46,7 @@ number_within : (s : State) → Counted s → (d : Deed) → number_for s d ≤ 
 number_within s c (lend p who) = omega (arith, c.granted)
 number_within s c (paint p) = omega (arith, c.marks, marks_few p.loan s.stock.marks)
 number_within s c (undo n who) = omega (arith, c.marks, marks_few n s.stock.marks)
-number_within s c (keep n) = omega (arith, c.outs)
-number_within s c (cancel n) = omega (arith, c.outs)
+number_within s c d = omega (arith, c.outs)
 
 module _ (d : Deed) (j j' : Book) (f f' : List ℕ) (v v' : Stock) where
   pub called_room : (r : Result ℕ Refusal) → Called d j f v r j' f' v' → SameRoom v v'

@@ -202,19 +202,15 @@ found_ended t n ls o m f = go (eqb m n) refl o f
 pub pieces_before : (t : Table) (d : Deed) (r : Result ℕ Refusal) (h : List Event) → All (OfPiece t) (lent t (record { call = d; answer = r } ∷ h)) → All (OfPiece t) (lent t h)
 pieces_before t d (Err e) h a = a
 pieces_before t (lend p who) (Ok x) h a = All-tail (OfPiece t) _ _ a
-pieces_before t (paint p) (Ok x) h a = a
-pieces_before t (undo m who) (Ok x) h a = a
-pieces_before t (keep m) (Ok x) h a = a
-pieces_before t (cancel m) (Ok x) h a = a
+pieces_before t d (Ok x) h a = a
 
 found_after : (t : Table) (n : ℕ) (d : Deed) (r : Result ℕ Refusal) (h : List Event) → All (OfPiece t) (lent t (record { call = d; answer = r } ∷ h))
     → PieceFound t n (out_in t h) (piece_out n h) → PieceFound t n (out_in t (record { call = d; answer = r } ∷ h)) (piece_after n (piece_out n h) d r)
 found_after t n d (Err e) h a f = f
 found_after t n (lend p who) (Ok x) h a f = found_lent t n (out_in t h) (piece_out n h) x p who (All-head (OfPiece t) _ _ a).0 f
-found_after t n (paint p) (Ok x) h a f = f
-found_after t n (undo m who) (Ok x) h a f = f
 found_after t n (keep m) (Ok x) h a f = found_ended t n (out_in t h) (piece_out n h) m f
 found_after t n (cancel m) (Ok x) h a f = found_ended t n (out_in t h) (piece_out n h) m f
+found_after t n d (Ok x) h a f = f
 
 found : (t : Table) (n : ℕ) (h : List Event) → All (OfPiece t) (lent t h) → PieceFound t n (out_in t h) (piece_out n h)
 found t n [] a = refl
@@ -242,13 +238,12 @@ pub walk_one : (t : Table) (opening : List ℕ) (h : List Event) (o : Owes) (pla
     → newest_over (survivors o (standing t opening (record { call = d; answer = r } ∷ h))) place
     ≡ or_else (painter_by t (λ n. piece_out n h) o place d r) (newest_over (survivors (λ m. owed_before m (o m) d r) (standing t opening h)) place)
 walk_one t opening h o place d (Err e) a = refl
-walk_one t opening h o place (lend p who) (Ok x) a = refl
 walk_one t opening h o place (paint p) (Ok x) a =
     newest_first (laying opening (out_in t h) (standing t opening h) p) (survivors (pay p.loan o) (standing t opening h)) place (owes_nothing (o p.loan)) _
     (ap (λ (v : Area). reach_over (stroke_place v p) (length p.laid) place) (area_is t p.loan (out_in t h) (piece_out p.loan h) (found t p.loan h a)))
 walk_one t opening h o place (undo m who) (Ok x) a = ap (λ ss. newest_over ss place) (survive_undo m o (standing t opening h))
-walk_one t opening h o place (keep m) (Ok x) a = refl
 walk_one t opening h o place (cancel m) (Ok x) a = ap (λ ss. newest_over ss place) (survive_cancel m o (standing t opening h))
+walk_one t opening h o place d (Ok x) a = refl
 
 written_more : (h : List Event) (cs : List Call) (rs : List (Result ℕ Refusal)) (k : ℕ) (dc : Call) (dr : Result ℕ Refusal) → k < length cs → k < length rs
     → written_down h (map deed_of (take (suc k) cs)) (take (suc k) rs)
@@ -332,11 +327,8 @@ is_some (Some k) = true
 
 gone_before : (n : ℕ) (d : Deed) (r : Result ℕ Refusal) → owed_before n None d r ≡ None
 gone_before n d (Err e) = refl
-gone_before n (lend p who) (Ok x) = refl
-gone_before n (paint p) (Ok x) = refl
-gone_before n (undo m who) (Ok x) = refl
-gone_before n (keep m) (Ok x) = refl
 gone_before n (cancel m) (Ok x) = elim (eqb m n) as (λ b. cond {A = Option ℕ} b None None ≡ None) [ true ↦ refl | false ↦ refl ]
+gone_before n d (Ok x) = refl
 
 gone_all : (n : ℕ) (cs : List Call) (rs : List (Result ℕ Refusal)) (k : ℕ) → owed n (drop k cs) (drop k rs) ≡ None → owed n cs rs ≡ None
 gone_all n cs rs zero e = e
