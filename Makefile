@@ -5,18 +5,15 @@
 
 SAMPLES = crates/samples/data
 
-demo: target/bin/cuivakko target/bin/pieces target/bin/retouch
+demo:
+	@tools/build.py cuivakko pieces retouch
 	@tools/show_day.sh target/bin/cuivakko crates/cuivakko/data/master.dds crates/cuivakko/stdin
 	@tools/show_day.sh target/bin/cuivakko crates/busy_day/data/master.dds crates/busy_day/data/orders.txt
 	@for file in $(SAMPLES)/*.dds; do echo "$$file"; target/bin/pieces $$file || exit 1; done
 	@target/bin/retouch $(SAMPLES)/cube-rgb.dds
 
-# rt proves a program before it links it, and runs it then: without input, and some asked for their usage, each ends at once.
-target/bin/pieces target/bin/retouch: ASKED = -- --help
 target/bin/%: crates.txt $(shell find crates -path '*/out' -prune -o \( -name '*.rt' -o -name '*.antt' \) -print)
-	cd crates/$* && rt run $(ASKED) </dev/null >/dev/null
-	@mkdir -p target/bin
-	cp crates/$*/out/$* $@
+	@tools/build.py $*
 
 test:
 	.ci/run
