@@ -1,7 +1,7 @@
 # What the repository does: `make demo` shows it on sample data, `make test` is the gate, `make bench` measures it,
 # `make robust` tries the programs where something is wrong around them, `make memory` makes each allocation of a day and a run fail,
 # `make planted` tries the planted bugs, which the proofs must refuse, `make fmt` formats the sources.
-.PHONY: demo test bench robust memory planted fmt
+.PHONY: demo test docs bench robust memory planted fmt
 
 SAMPLES = crates/samples/data
 
@@ -17,6 +17,10 @@ target/bin/%: crates.txt $(shell find crates -path '*/out' -prune -o \( -name '*
 
 test:
 	.ci/run
+
+# The code in README.md stands in crates/example, and what the documents name is there.
+docs:
+	tools/check_docs.py
 
 # The ratios of its costs to those of bench/, the same work in plain Rust.
 bench: target/bin/bench
