@@ -3,6 +3,9 @@
 # `make planted` tries the planted bugs, which the proofs must refuse, `make fmt` formats the sources.
 .PHONY: demo test docs bench robust memory planted fmt
 
+# One build at a time: they share a log.
+.NOTPARALLEL:
+
 SAMPLES = crates/samples/data
 
 demo:

@@ -45,6 +45,8 @@ def prove(name, log):
 def main():
     names = sys.argv[1:]
     crates = crates_of(names)
+    if shutil.which('rt') is None:
+        sys.exit('rt, the command of the Rattle kit, is not on the path')
     (ROOT / 'target/bin').mkdir(parents=True, exist_ok=True)
     print(f'Proving and building {len(crates)} crates; what the prover says goes into target/build.log')
     for at, name in enumerate(crates, 1):
@@ -63,7 +65,4 @@ def main():
 
 
 if __name__ == '__main__':
-    try:
-        main()
-    except FileNotFoundError as error:
-        sys.exit(f'{error.filename} is absent')
+    main()
