@@ -1,4 +1,4 @@
-// Why a call is turned down. A refusal leaves everything as it was, but that a refused scrap takes its docket; docs/REFUSALS.md has each
+// Why a call is turned down. A refusal leaves everything as it was, but that a refused scrap takes its docket; docs/RULES.md has each
 // number's meaning, the calls that give it, and the order in which they test.
 #![tactic(auto)]
 
