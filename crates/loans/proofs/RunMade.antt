@@ -6,13 +6,14 @@ use Rattle.refusal.specs.declared.Refusal.{Refusal}
 use Rattle.dds.specs.declared.layout.Layout.{Layout}
 use Rattle.loans.specs.declared.docket.Docket.{Docket}
 use Rattle.loans.specs.Jobs.{Book, fresh_book}
-use Rattle.loans.specs.Stocks.{Stock, are_ours}
+use Rattle.loans.specs.Stocks.{Stock, SameRoom, are_ours}
 use Rattle.loans.specs.Strokes.{State, state_of}
 use Rattle.loans.specs.Rules.{answers_to, after_all}
 use Rattle.loans.specs.History.{history_of}
 use Rattle.loans.specs.Law.{Law}
 use Rattle.loans.specs.Runs.{opened_state, is_empty, OursAlong, AllDone, Ordered, FileOpened, RanSo}
 use Rattle.loans.proofs.Calls.{answers_to_length}
+use Rattle.loans.proofs.Limits.{same_after_all}
 use Rattle.loans.proofs.Runs.{law_run, ours_run}
 
 module _ (o : Ordered) (t : Book) (y : Layout) (opened : FileOpened o (Ok y)) (book : t ≡ fresh_book y (Some o.number)) where
@@ -49,6 +50,7 @@ module _ (o : Ordered) (t : Book) (y : Layout) (opened : FileOpened o (Ok y)) (b
         each = answers_to_length first o.calls;
         by_rules = refl;
         state = is;
+        same_room = subst (λ (s : State). SameRoom o.shelves s.stock) (sym is) (same_after_all first o.calls);
         law = λ marks bytes. subst (Law y o.number o.shelves.most_marks o.shelves.most_bytes o.file (history_of o.calls (answers_to first o.calls))) (sym is)
             (law_run y o.number o.file o.shelves o.calls sized marks bytes);
       }

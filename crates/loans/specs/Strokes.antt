@@ -67,10 +67,14 @@ pub record Painting : Type 0 where
   pub first : ℕ
   pub laid : List ℕ
 
+-- a paint on a loan, by a borrower, in a row from a byte of it on
+abbrev pub painting_on : ℕ → ℕ → ℕ → ℕ → List ℕ → Painting
+painting_on n who row' first' laid' =
+    record { loan = n; borrower = who; row = row'; first = first'; laid = laid' }
+
 -- what a paint of the code names
 abbrev pub painting_of : Call.Painting → Painting
-painting_of p =
-    record { loan = p.loan; borrower = p.borrower; row = p.row; first = p.first; laid = p.bytes.now }
+painting_of p = painting_on p.loan p.borrower p.row p.first p.bytes.now
 
 -- no bytes, no such row, or past the row's end
 abbrev pub is_outside_row : Area → Painting → Bool

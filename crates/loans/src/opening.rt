@@ -1,5 +1,5 @@
 // Opening a job, and asking where its pieces stand.
-ghost use Rattle.std.specs.Prelude.{◌≡◌, Option};
+ghost use Rattle.std.specs.Prelude.{◌≡◌, Option, OnOk, length};
 ghost use Rattle.dds.specs.Places.{WhereIs, where_in, WhoseIs, Shown};
 ghost use Rattle.loans.specs.Jobs.{fresh_book, IsEmpty, report_of, IsBalanced};
 ghost use Rattle.loans.specs.Opening.{OpenedWith, OpenedWithCodes};
@@ -46,8 +46,9 @@ impl Job {
         number: u32,
         family: &F,
     ) -> Result<Docket, Refusal>
-        ensures { OpenedWith file.now number (F.row_bytes family.now) (F.rows family.now)
+        ensures opened { OpenedWith file.now number (F.row_bytes family.now) (F.rows family.now)
             self.old result self.new }
+        ensures length { OnOk result (length file.now ≡ self.new.layout.table.length) }
     {
         let layout = Layout::read_with(FileHead::of(file), family)?;
         *self = Job::fresh(layout, Some(number));
@@ -56,13 +57,16 @@ impl Job {
 
     /// Opens a file by the format that its header names, with a table of the codes other than DX10, whatever the job held. Refuses as
     /// Layout::read does, and then changes nothing.
+    #[tactic(auto, using(crate::proofs::Opened::length_by_codes))]
     pub fn open<T: CodeTable>(
         &mut self,
         file: &[u8],
         number: u32,
         codes: &T,
     ) -> Result<Docket, Refusal>
-        ensures { OpenedWithCodes file.now number (T.name_at codes.now) self.old result self.new }
+        ensures opened { OpenedWithCodes file.now number (T.name_at codes.now)
+            self.old result self.new }
+        ensures length { OnOk result (length file.now ≡ self.new.layout.table.length) }
     {
         let layout = Layout::read(FileHead::of(file), codes)?;
         *self = Job::fresh(layout, Some(number));
