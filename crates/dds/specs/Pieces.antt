@@ -47,7 +47,7 @@ pub record FitsPlan (plan : Plan) (n : ℕ) (ps : List Placed) : Type 0 where
   pub touching : Touching plan.begin ps n
 
 -- a piece, by its three numbers
-abbrev piece_of : ℕ → ℕ → ℕ → Piece
+abbrev pub piece_of : ℕ → ℕ → ℕ → Piece
 piece_of e l s = record { element = e; level = l; slice = s }
 
 -- so many slices of a level, from one on

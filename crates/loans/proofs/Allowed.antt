@@ -9,7 +9,7 @@ use Rattle.loans.specs.Strokes.{State, Painting, is_other_length, is_outside_row
 
 -- of a paint
 pub record MayPaint (s : State) (p : Painting) : Type 0 where
-  pub sized : length s.file ≡ s.book.table.length
+  pub sized : length s.file ≡ s.book.layout.table.length
   pub ours : are_ours s.book s.stock ≡ true
   pub in_row : is_outside_row (the_loan s.book.outs p.loan).area p ≡ false
   pub space : lacks_space s.stock (length p.laid) ≡ false
@@ -39,7 +39,7 @@ stroke_inside a p rows in_row =
 
 -- of an undo
 pub record MayUndo (s : State) (n : ℕ) : Type 0 where
-  pub sized : length s.file ≡ s.book.table.length
+  pub sized : length s.file ≡ s.book.layout.table.length
   pub ours : are_ours s.book s.stock ≡ true
   pub some : 0 < marks_of n s.stock.marks
 

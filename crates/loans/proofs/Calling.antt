@@ -3,7 +3,7 @@ use Rattle.std.proofs.Common.{◌≡◌, ℕ, ◌+◌, ◌-◌, ◌<◌, ◌≤�
 use Rattle.std.proofs.lemmas.List.{take_more, take-map, map_push}
 use Rattle.refusal.specs.declared.Refusal.{Refusal}
 use Rattle.loans.specs.declared.call.Call.{Call}
-use Rattle.loans.specs.declared.job.Job.{Job}
+use Rattle.loans.specs.Jobs.{Book}
 use Rattle.loans.specs.Stocks.{Stock, are_ours}
 use Rattle.loans.specs.Strokes.{State, state_of}
 use Rattle.loans.specs.Rules.{Deed, deed_of, carried_out, number_for, refusal_or, left, answer_to, after, answers_to, after_all}
@@ -12,13 +12,13 @@ use Rattle.loans.specs.Runs.{OursAlong, AllDone}
 use Rattle.loans.proofs.Calls.{after_all_push, answers_to_push}
 
 -- a call that keeps its promise answers and leaves what the rules say
-pub called_answer : (d : Deed) (j j' : Job) (f f' : List ℕ) (v v' : Stock) (r : Result ℕ Refusal) → Called d j f v r j' f' v'
+pub called_answer : (d : Deed) (j j' : Book) (f f' : List ℕ) (v v' : Stock) (r : Result ℕ Refusal) → Called d j f v r j' f' v'
     → r ≡ answer_to (state_of j f v) d
 called_answer d j j' f f' v v' (Ok n) c =
     sym (ap₂ (λ (e : Option Refusal) (k : ℕ). refusal_or e k) c.none (sym c.answer))
 called_answer d j j' f f' v v' (Err e) c = sym (ap (λ (x : Option Refusal). refusal_or x (number_for (carried_out (state_of j f v) d) d)) c.0)
 
-pub called_state : (d : Deed) (j j' : Job) (f f' : List ℕ) (v v' : Stock) (r : Result ℕ Refusal) → Called d j f v r j' f' v'
+pub called_state : (d : Deed) (j j' : Book) (f f' : List ℕ) (v v' : Stock) (r : Result ℕ Refusal) → Called d j f v r j' f' v'
     → state_of j' f' v' ≡ after (state_of j f v) d
 called_state d j j' f f' v v' (Ok n) c =
     c.state ∙ sym (ap (λ (x : Option Refusal). left x (state_of j f v) (carried_out (state_of j f v) d)) c.none)

@@ -1,9 +1,11 @@
 -- How many loans are out, and what holds of each.
-use Rattle.std.proofs.Common.{◌≡◌, ℕ, ◌+◌, ◌*◌, ◌<◌, ◌≤◌, length, get_or, sym, ap, ◌∙◌, subst, arith, length-take-le}
+use Rattle.std.proofs.Common.{◌≡◌, ℕ, ◌<◌, ◌≤◌, length, get_or, sym, ap, subst, arith, length-take-le}
 use Rattle.std.proofs.lemmas.List.{get_or-take}
+use Rattle.dds.specs.declared.layout.Layout.{Layout}
 use Rattle.loans.specs.declared.ledger.Ledger.{Ledger}
 use Rattle.loans.specs.declared.ledger.Loan.{Loan}
-use Rattle.loans.specs.Books.{Balanced, Inside, NumbersRise, outs, no_loan}
+use Rattle.loans.specs.Books.{Balanced, InOrder, LiesWithin, NumbersRise, outs, no_loan}
+use Rattle.loans.specs.Jobs.{Book, book_in, Orderly}
 
 pub out_count : (l : Ledger) → Balanced l → length (outs l) ≡ l.out
 out_count l b = let a = b.0 in let c = b.1 in length-take-le l.out l.loans (omega arith)
@@ -12,11 +14,24 @@ out_count l b = let a = b.0 in let c = b.1 in length-take-le l.out l.loans (omeg
 pub out_at : (l : Ledger) → Balanced l → (k : ℕ) → k < length (outs l) → get_or (outs l) k no_loan ≡ get_or l.loans k no_loan
 out_at l b k h = get_or-take l.out l.loans k no_loan (omega (arith, out_count l b))
 
-pub out_inside : (n : ℕ) (l : Ledger) → Balanced l → Inside n l → (k : ℕ) → k < length (outs l) → (x : Loan) → x ≡ get_or (outs l) k no_loan
-    → (x.area.place + x.area.length ≤ n) × (x.area.length ≡ x.area.row_bytes * x.area.rows)
-out_inside n l b inside k h x is =
-    subst (λ (y : Loan). (y.area.place + y.area.length ≤ n) × (y.area.length ≡ y.area.row_bytes * y.area.rows))
-    (sym (is ∙ out_at l b k h)) (inside k (omega (arith, out_count l b)))
+-- so what a ledger in order tells is orderly
+pub orderly : (y : Layout) (l : Ledger) → InOrder y.table.length l → Orderly (book_in y l)
+orderly y l o =
+    let b = o.balanced in
+    let n = out_count l b in
+    let at : (k : ℕ) → k < length (outs l) → get_or l.loans k no_loan ≡ get_or (outs l) k no_loan = λ k h. sym (out_at l b k h) in
+    record {
+      few = omega (arith, b.1);
+      numbers = b.2;
+      balance = omega (arith, b.3);
+      inside = λ k h. subst (λ (x : Loan). LiesWithin y.table.length x.area) (at k h) (o.inside k (omega arith));
+      given = λ k h. subst (λ (x : Loan). x.number ≤ l.granted) (at k h) (o.given k (omega arith));
+      rising = o.rising;
+    }
+
+-- a loan that is out lies in the file
+pub out_inside : (b : Book) → Orderly b → (k : ℕ) → k < length b.outs → (x : Loan) → x ≡ get_or b.outs k no_loan → LiesWithin b.layout.table.length x.area
+out_inside b o k h x is = subst (λ (l : Loan). LiesWithin b.layout.table.length l.area) (sym is) (o.inside k h)
 
 -- the numbers of the loans out, read in the ledger's memory
 pub rise_in : (l : Ledger) → Balanced l → NumbersRise (outs l) → (j k : ℕ) → j < k → k < l.out → (get_or l.loans j no_loan).number < (get_or l.loans k no_loan).number

@@ -5,15 +5,17 @@ use Rattle.std.proofs.lemmas.Bool.{cases_lt, cond-false, eqb-true, eqb-false, eq
 use Rattle.shelf.proofs.Runs.{slid_front}
 use Rattle.loans.specs.declared.ending.Ending.{Ending}
 use Rattle.loans.specs.declared.ending.Ending.TheVariants.{Kept, Cancelled}
+use Rattle.dds.specs.declared.layout.Layout.{Layout}
 use Rattle.loans.specs.declared.ledger.Ledger.{Ledger}
 use Rattle.loans.specs.declared.ledger.Loan.{Loan}
 use Rattle.loans.specs.declared.mark.Mark.{Mark}
 use Rattle.loans.specs.Lists.{less_all}
-use Rattle.loans.specs.Books.{Balanced, Inside, NumbersGiven, NumbersRise, outs, no_loan}
-use Rattle.loans.specs.Stocks.{is_number, of_loan, marks_of, all_counted}
+use Rattle.loans.specs.Books.{InOrder, Balanced, Inside, NumbersGiven, NumbersRise, outs, no_loan}
+use Rattle.loans.specs.Jobs.{book_in}
+use Rattle.loans.specs.Stocks.{Stock, is_number, of_loan, marks_of, all_counted}
 use Rattle.loans.specs.Strokes.{counted_loan}
 use Rattle.loans.specs.Finding.{StandsAt}
-use Rattle.loans.specs.Writing.{kept_by, cancelled_by, ledger_ended}
+use Rattle.loans.specs.Writing.{kept_by, cancelled_by, ledger_ended, book_ended}
 use Rattle.loans.proofs.Counting.{rise_in, rise_from}
 use Rattle.loans.proofs.Recounting.{other_number}
 use Rattle.loans.proofs.Searches.{less_at}
@@ -154,6 +156,26 @@ module _ (l : Ledger) (b : Balanced l) (k more less m y : ℕ) (out : k < l.out)
           let high : k ≤ j = omega arith in
           subst₂ Less (sym (at_above i g above)) (sym (at_above j f high)) (was_less (i + 1) (j + 1) (omega arith) (omega arith)))
           (cases_lt i k)
+
+  pub ended_in_order : more + less ≡ 1 → (a : ℕ) → InOrder a l → InOrder a (ledger_ended l k more less m y)
+  ended_in_order one a o =
+      record { balanced = ended_balanced one; inside = ended_inside a o.inside; given = ended_given o.given; rising = ended_rising one o.rising }
+
+-- a job's book after one of its loans ended
+pub ended_in : (l : Ledger) (b : Balanced l) (k : ℕ) (ending : Ending) (m y : ℕ) → k < l.out → (z : Layout) (stock : Stock) → m ≡ length stock.marks → y ≡ length stock.bytes
+    → book_in z (ledger_ended l k (kept_by ending) (cancelled_by ending) m y) ≡ book_ended (book_in z l) k ending stock
+ended_in l b k ending m y out z stock marks' bytes' =
+    let outs' = ended_outs l b k (kept_by ending) (cancelled_by ending) m y out in
+    λ i. record {
+      layout = z;
+      number = l.number;
+      outs = outs' i;
+      granted = l.granted;
+      kept = l.kept + kept_by ending;
+      cancelled = l.cancelled + cancelled_by ending;
+      marks = marks' i;
+      bytes = bytes' i;
+    }
 
 -- each ending counts one loan
 pub counts_one : (e : Ending) → kept_by e + cancelled_by e ≡ 1

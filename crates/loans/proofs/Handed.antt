@@ -1,23 +1,21 @@
 -- Loans that were handed in stay so.
-use Rattle.std.proofs.Common.{◌≡◌, ℕ, suc, ◌+◌, ◌<◌, ◌≤◌, Bool, true, false, cond, not, eqb, List, [], ◌∷◌, map, length, get_or, Some, None, Ok, Err, filter, Option, Result, sym, refl, ap, ◌∙◌, subst, arith, ◌||◌}
+use Rattle.std.proofs.Common.{◌≡◌, ℕ, suc, ◌+◌, ◌<◌, ◌≤◌, Bool, true, false, cond, not, eqb, List, [], ◌∷◌, map, length, get_or, Some, None, filter, Option, sym, refl, ap, ◌∙◌, subst, arith, ◌||◌}
 use Rattle.std.specs.List.{list_any, AllByRecursion}
 use Rattle.std.proofs.lemmas.Bool.{true≢false, false≢true, not-false, eqb-true, eq-eqb, ne_eqb}
 use Rattle.refusal.specs.declared.Refusal.{Refusal}
 use Rattle.refusal.specs.declared.Refusal.TheVariants.{OtherLength, LoanNotOut}
-use Rattle.loans.specs.declared.job.Job.{Job}
 use Rattle.loans.specs.declared.ledger.Loan.{Loan}
 use Rattle.loans.specs.declared.mark.Mark.{Mark}
 use Rattle.loans.specs.Lists.{less_all}
 use Rattle.loans.specs.Books.{no_loan}
-use Rattle.loans.specs.Jobs.{Book, book_of}
+use Rattle.loans.specs.Jobs.{Book, Orderly}
 use Rattle.loans.specs.Stocks.{Stock, is_number, is_out, the_loan}
-use Rattle.loans.specs.Strokes.{State, counted_loan, is_other_length}
-use Rattle.loans.specs.Ending.{keep_refusal, kept_book, cancel_refusal, cancelled}
+use Rattle.loans.specs.Strokes.{State, state_of, counted_loan, is_other_length}
+use Rattle.loans.specs.Ending.{kept_book, cancelled}
 use Rattle.loans.specs.Rules.{Deed, call_refusal, carried_out, left, after}
 use Rattle.loans.specs.Rules.Deed.{lend, paint, undo, keep, cancel}
-use Rattle.loans.specs.Calls.{Called}
-use Rattle.loans.specs.Handed.{LaterCall, state_with, later_book, is_on, RefusedAsNotOut, HandedIn, HandedWhere, HandedBy}
-use Rattle.loans.proofs.Counting.{out_count, out_at}
+use Rattle.loans.specs.Calls.{Carried}
+use Rattle.loans.specs.Handed.{LaterCall, later_book, is_on, RefusedAsNotOut, HandedIn}
 use Rattle.loans.proofs.Passing.{passed}
 use Rattle.loans.proofs.Listed.{some_of_map, some_of_push, some_of_none, none_less_all, first_among, all_among}
 
@@ -63,20 +61,20 @@ gone_after n s g d = left_either (λ (x : State). Gone n x.book) (call_refusal s
 
 gone_later : (n : ℕ) (xs : List LaterCall) (b : Book) → Gone n b → Gone n (later_book b xs)
 gone_later n [] b g = g
-gone_later n (x ∷ xs) b g = gone_later n xs _ (gone_after n (state_with b x.file x.stock) g x.deed)
+gone_later n (x ∷ xs) b g = gone_later n xs _ (gone_after n (state_of b x.file x.stock) g x.deed)
 
 -- the file is looked at first, then the loan
 by_length : (s : State) (d : Deed) → call_refusal s d ≡ cond (is_other_length s) (Some OtherLength) (Some LoanNotOut) → RefusedAsNotOut s d
-by_length s d e = go (eqb (length s.file) s.book.table.length) refl e
+by_length s d e = go (eqb (length s.file) s.book.layout.table.length) refl e
   where
-    go : (b : Bool) → eqb (length s.file) s.book.table.length ≡ b → call_refusal s d ≡ cond (not b) (Some OtherLength) (Some LoanNotOut) → RefusedAsNotOut s d
+    go : (b : Bool) → eqb (length s.file) s.book.layout.table.length ≡ b → call_refusal s d ≡ cond (not b) (Some OtherLength) (Some LoanNotOut) → RefusedAsNotOut s d
     go true q r = record { reason = LoanNotOut; refused = r; unchanged = ap (λ x. left x s (carried_out s d)) r; not_out = λ h. refl }
     go false q r =
         record {
           reason = OtherLength;
           refused = r;
           unchanged = ap (λ x. left x s (carried_out s d)) r;
-          not_out = λ h. absurd (true≢false (sym (eq-eqb (length s.file) s.book.table.length h) ∙ q));
+          not_out = λ h. absurd (true≢false (sym (eq-eqb (length s.file) s.book.layout.table.length h) ∙ q));
         }
 
 refused_as_not_out : (n : ℕ) (s : State) → is_out s.book.outs n ≡ false → (d : Deed) → is_on n d ≡ true → RefusedAsNotOut s d
@@ -98,7 +96,7 @@ refused_as_not_out n s g (cancel m) h =
 -- a given number whose loan is not out is handed in
 pub handed_in : (b : Book) (n : ℕ) → is_out b.outs n ≡ false → n ≤ b.granted → HandedIn n b
 handed_in b n out given xs f k d h =
-    let g = gone_later n xs b (record { not_out = out; given = given }) in refused_as_not_out n (state_with (later_book b xs) f k) g.not_out d h
+    let g = gone_later n xs b (record { not_out = out; given = given }) in refused_as_not_out n (state_of (later_book b xs) f k) g.not_out d h
 
 -- the numbers of the loans out were given
 abbrev pub NumbersGiven : Book → Type 0
@@ -124,41 +122,17 @@ all_at P d [] h = tt
 all_at P d (x ∷ xs) h = (h 0 (omega arith), all_at P d xs (λ k i. h (suc k) (omega arith)))
 
 -- so it is of every job
-pub job_given : (j : Job) → NumbersGiven (book_of j)
-job_given j =
-    all_at (λ (l : Loan). l.number ≤ j.ledger.granted) no_loan (book_of j).outs
-    (λ k h.
-    subst (λ (l : Loan). l.number ≤ j.ledger.granted) (sym (out_at j.ledger j.balanced k h))
-    (j.given k (omega (arith, out_count j.ledger j.balanced))))
+book_given : (b : Book) → Orderly b → NumbersGiven b
+book_given b o = all_at (λ (l : Loan). l.number ≤ b.granted) no_loan b.outs o.given
 
 -- a job after a keep or a cancel that was carried out
-pub kept_job : (j : Job) (k : Stock) (n : ℕ) (b : Book) → keep_refusal (book_of j) k n ≡ None → b ≡ kept_book (book_of j) k n → HandedIn n b
-kept_job j k n b none is =
-    let out = not-false _ (passed (not (is_out (book_of j).outs n)) _ _ none).0 in
-    subst (HandedIn n) (sym is) (kept_handed_in (book_of j) k n (job_given j) out)
+pub kept_handed : (b : Book) (f : List ℕ) (k : Stock) (n a : ℕ) (t : State) → Orderly b → Carried (keep n) (state_of b f k) a t → HandedIn n t.book
+kept_handed b f k n a t o c =
+    let out = not-false _ (passed (not (is_out b.outs n)) _ _ c.none).0 in
+    subst (λ (s : State). HandedIn n s.book) (sym c.state) (kept_handed_in b k n (book_given b o) out)
 
-pub cancelled_job : (j : Job) (f : List ℕ) (k : Stock) (n : ℕ) (b : Book) → cancel_refusal (state_with (book_of j) f k) n ≡ None
-    → b ≡ (cancelled (state_with (book_of j) f k) n).book → HandedIn n b
-cancelled_job j f k n b none is =
-    let here : State = state_with (book_of j) f k in
-    let out = not-false _ (passed (not (is_out (book_of j).outs n)) _ _ (passed (is_other_length here) _ _ none).1).0 in
-    subst (HandedIn n) (sym is) (cancelled_handed_in here n (job_given j) out)
-
-pub kept_called : (n : ℕ) (j : Job) (f : List ℕ) (v : Stock) (r : Result ℕ Refusal) (j' : Job) (f' : List ℕ) (v' : Stock)
-    → Called (keep n) j f v r j' f' v' → HandedWhere n r (book_of j')
-kept_called n j f v (Ok x) j' f' v' c = kept_job j v n (book_of j') c.none (ap (λ (s : State). s.book) c.state)
-kept_called n j f v (Err e) j' f' v' c = tt
-
-pub cancelled_called : (n : ℕ) (j : Job) (f : List ℕ) (v : Stock) (r : Result ℕ Refusal) (j' : Job) (f' : List ℕ) (v' : Stock)
-    → Called (cancel n) j f v r j' f' v' → HandedWhere n r (book_of j')
-cancelled_called n j f v (Ok x) j' f' v' c = cancelled_job j f v n (book_of j') c.none (ap (λ (s : State). s.book) c.state)
-cancelled_called n j f v (Err e) j' f' v' c = tt
-
--- the same of any call
-pub called_handed : (d : Deed) (j : Job) (f : List ℕ) (v : Stock) (r : Result ℕ Refusal) (j' : Job) (f' : List ℕ) (v' : Stock)
-    → Called d j f v r j' f' v' → HandedBy d r (book_of j')
-called_handed (lend p who) j f v r j' f' v' c = tt
-called_handed (paint p) j f v r j' f' v' c = tt
-called_handed (undo n who) j f v r j' f' v' c = tt
-called_handed (keep n) j f v r j' f' v' c = kept_called n j f v r j' f' v' c
-called_handed (cancel n) j f v r j' f' v' c = cancelled_called n j f v r j' f' v' c
+pub cancelled_handed : (b : Book) (f : List ℕ) (k : Stock) (n a : ℕ) (t : State) → Orderly b → Carried (cancel n) (state_of b f k) a t → HandedIn n t.book
+cancelled_handed b f k n a t o c =
+    let here : State = state_of b f k in
+    let out = not-false _ (passed (not (is_out b.outs n)) _ _ (passed (is_other_length here) _ _ c.none).1).0 in
+    subst (λ (s : State). HandedIn n s.book) (sym c.state) (cancelled_handed_in here n (book_given b o) out)

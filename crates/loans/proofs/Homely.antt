@@ -60,7 +60,7 @@ module _ (s : State) (same : is_other_length s ≡ false) (ours : are_ours s.boo
 
   pub homely : (d : Deed) → Homely (call_refusal s d)
   homely (lend p who) =
-      homely_cond (not (exists_in s.book.table p)) _ _ is_no_such_piece
+      homely_cond (not (exists_in s.book.layout.table p)) _ _ is_no_such_piece
       (homely_cond (piece_is_out s.book.outs p) _ _ is_piece_out
       (homely_cond (leb 32 (length s.book.outs)) _ _ is_too_many_loans
       (homely_cond (leb 65535 s.book.granted) _ _ is_numbers_used_up homely_none)))

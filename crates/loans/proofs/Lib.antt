@@ -29,4 +29,6 @@ mod Restored
 mod Handed
 mod Scrapped
 pub mod Calling
+pub mod Limits
+pub mod Opened
 mod RunMade

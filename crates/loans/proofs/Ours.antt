@@ -4,7 +4,7 @@ use Rattle.std.specs.List.{AllByRecursion}
 use Rattle.std.proofs.lemmas.List.FromFn.{length-map-range_with_len}
 use Rattle.std.proofs.lemmas.Bool.{eq-eqb, le-leb, and_from, not_from_true}
 use Rattle.dds.specs.declared.area.Area.{Area}
-use Rattle.dds.specs.declared.table.Table.{Table}
+use Rattle.dds.specs.declared.layout.Layout.{Layout}
 use Rattle.loans.specs.declared.ledger.Loan.{Loan}
 use Rattle.loans.specs.declared.mark.Mark.{Mark}
 use Rattle.loans.specs.Jobs.{Book}
@@ -16,10 +16,10 @@ use Rattle.loans.proofs.Outs.{out_counted, loan_counted, all_counted_lem}
 use Rattle.loans.proofs.Good.{Laid, Good, loan_known, all_even}
 
 -- a book that counts no marks yet
-abbrev pub plain_book : Table → ℕ → List Loan → List Loan → ℕ → ℕ → Book
-plain_book t number' ls os keeps cancels =
+abbrev pub plain_book : Layout → ℕ → List Loan → List Loan → ℕ → ℕ → Book
+plain_book y number' ls os keeps cancels =
     record {
-      table = t;
+      layout = y;
       number = Some number';
       outs = os;
       granted = length ls;
@@ -34,16 +34,16 @@ abbrev pub state_of : Book → List ℕ → Stock → State
 state_of b file' k = record { book = recounted b k; file = file'; stock = k }
 
 -- the state by the loans ever granted, the loans out, the keeps, the cancels and the strokes that stand
-abbrev pub told_by : Table → ℕ → ℕ → ℕ → List ℕ → List Loan → List Loan → ℕ → ℕ → List Stroke → State
-told_by t number mm mb opening ls os keeps cancels ss =
-    state_of (plain_book t number ls os keeps cancels) (bytes_under opening ss 0 (length opening)) (shelved mm mb (undoable os ss))
+abbrev pub told_by : Layout → ℕ → ℕ → ℕ → List ℕ → List Loan → List Loan → ℕ → ℕ → List Stroke → State
+told_by y number mm mb opening ls os keeps cancels ss =
+    state_of (plain_book y number ls os keeps cancels) (bytes_under opening ss 0 (length opening)) (shelved mm mb (undoable os ss))
 
-module _ (t : Table) (number mm mb : ℕ) (opening : List ℕ) (ls os : List Loan) (keeps cancels : ℕ) (ss : List Stroke) (good : Good t mm mb opening ls os ss) where
+module _ (y : Layout) (number mm mb : ℕ) (opening : List ℕ) (ls os : List Loan) (keeps cancels : ℕ) (ss : List Stroke) (good : Good y.table mm mb opening ls os ss) where
   sound_mark : (ms : List Mark) (s : Stroke) → is_out os s.painting.loan ≡ true → Laid opening ls s → is_sound (map (counted_loan ms) os) (mark_of s) ≡ true
   sound_mark ms s out r =
       let n : ℕ = s.painting.loan in
       let area : (the_loan ls n).area ≡ (the_loan (map (counted_loan ms) os) n).area =
-      ap (λ (l : Loan). l.area) (loan_known t mm mb opening ls os ss good n out) ∙ sym (loan_counted ms (λ l. l.area) (λ l. refl) os n) in
+      ap (λ (l : Loan). l.area) (loan_known y.table mm mb opening ls os ss good n out) ∙ sym (loan_counted ms (λ l. l.area) (λ l. refl) os n) in
       let a = r.inside.some in
       and_from _ _ (le-leb 1 (stroke_length s) (omega arith))
       (and_from _ _ (out_counted ms os n ∙ out)
@@ -54,19 +54,19 @@ module _ (t : Table) (number mm mb : ℕ) (opening : List ℕ) (ls os : List Loa
   sound_marks ms [] h r = refl
   sound_marks ms (s ∷ v) h r = and_from _ _ (sound_mark ms s h.0 r.0) (sound_marks ms v h.1 r.1)
 
-  pub told_ours : (let s : State = told_by t number mm mb opening ls os keeps cancels ss in are_ours s.book s.stock ≡ true)
+  pub told_ours : (let s : State = told_by y number mm mb opening ls os keeps cancels ss in are_ours s.book s.stock ≡ true)
   told_ours =
       let v : List Stroke = undoable os ss in
       let ms : List Mark = map mark_of v in
       and_from _ _ (and_from _ _ (eq-eqb (length ms) (length ms) refl) (eq-eqb (length (all_below v)) (length (all_below v)) refl))
       (and_from _ _ (all_counted_lem ms os)
       (and_from _ _ (sound_marks ms v (undoable_out os ss) (undoable_all os (Laid opening ls) ss good.laid))
-      (eq-eqb _ _ (lengths_is v (all_even t mm mb opening ls os ss good)))))
+      (eq-eqb _ _ (lengths_is v (all_even y.table mm mb opening ls os ss good)))))
 
 pub told_length : (opening : List ℕ) (ss : List Stroke) → length (bytes_under opening ss 0 (length opening)) ≡ length opening
 told_length opening ss = length-map-range_with_len _ 0 (length opening)
 
 -- the file's length is the job's
-pub told_same : (t : Table) (number mm mb : ℕ) (opening : List ℕ) (ls os : List Loan) (keeps cancels : ℕ) (ss : List Stroke) → length opening ≡ t.length
-    → is_other_length (told_by t number mm mb opening ls os keeps cancels ss) ≡ false
-told_same t number mm mb opening ls os keeps cancels ss e = not_from_true _ (eq-eqb _ _ (told_length opening ss ∙ e))
+pub told_same : (y : Layout) (number mm mb : ℕ) (opening : List ℕ) (ls os : List Loan) (keeps cancels : ℕ) (ss : List Stroke) → length opening ≡ y.table.length
+    → is_other_length (told_by y number mm mb opening ls os keeps cancels ss) ≡ false
+told_same y number mm mb opening ls os keeps cancels ss e = not_from_true _ (eq-eqb _ _ (told_length opening ss ∙ e))

@@ -139,7 +139,7 @@ pub recounted_again : (b : Book) (k k' : Stock) → recounted (recounted b k) k'
 recounted_again b k k' =
     let e = again_counted k.marks k'.marks b.outs in
     λ i. record {
-      table = b.table;
+      layout = b.layout;
       number = b.number;
       outs = e i;
       granted = b.granted;
@@ -153,7 +153,7 @@ pub recounted_without : (b : Book) (k k' : Stock) (n x y : ℕ) → recounted (b
 recounted_without b k k' n x y =
     let e = ap (map (counted_loan k'.marks)) (less_counted k.marks n b.outs) ∙ again_counted k.marks k'.marks (less_all (is_number n) b.outs) in
     λ i. record {
-      table = b.table;
+      layout = b.layout;
       number = b.number;
       outs = e i;
       granted = b.granted;

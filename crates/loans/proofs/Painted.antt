@@ -1,42 +1,41 @@
 -- What a paint that is carried out leaves.
-use Rattle.std.proofs.Common.{◌≡◌, ℕ, suc, ◌+◌, ◌-◌, ◌<◌, ◌≤◌, Bool, true, false, cond, ◌≢◌, List, [], ◌∷◌, ◌++◌, map, length, get_or, take, drop, None, refl, ap, ◌∙◌, arith}
+use Rattle.std.proofs.Common.{◌≡◌, ℕ, suc, ◌+◌, ◌-◌, ◌<◌, ◌≤◌, Bool, true, false, cond, ◌≢◌, List, [], ◌∷◌, ◌++◌, length, get_or, take, drop, None, refl, ap, ◌∙◌, arith}
 use lib.Seq.{paste}
 use Rattle.std.proofs.lemmas.Bool.{cond-true, cond-false, eq-eqb, ne_eqb}
-use Rattle.loans.specs.declared.job.Job.{Job}
+use Rattle.loans.specs.declared.ledger.Loan.{Loan}
 use Rattle.loans.specs.declared.mark.Mark.{Mark}
-use Rattle.loans.specs.Books.{no_loan, outs}
-use Rattle.loans.specs.Jobs.{book_of}
+use Rattle.loans.specs.Books.{no_loan, NumbersRise}
+use Rattle.loans.specs.Jobs.{Book, Orderly}
 use Rattle.loans.specs.Stocks.{Stock, Fits, the_loan, of_loan, marks_of, are_ours}
 use Rattle.loans.specs.Finding.{StandsAt}
-use Rattle.loans.specs.Strokes.{State, Painting, state_of, recounted, counted_loan, paint_refusal, stroke_place, PaintAt, stock_with, painted_stock}
+use Rattle.loans.specs.Strokes.{State, Painting, state_of, recounted, paint_refusal, stroke_place, PaintAt, stock_with, painted_stock}
 use Rattle.loans.specs.Rules.Deed.{paint}
 use Rattle.loans.specs.Calls.{Carried}
-use Rattle.loans.specs.Writing.{ledger_counted}
-use Rattle.loans.proofs.Counting.{out_count, out_inside}
+use Rattle.loans.specs.Writing.{book_counted}
+use Rattle.loans.proofs.Counting.{out_inside}
 use Rattle.loans.proofs.Tallying.{marks_few}
-use Rattle.loans.proofs.Recounting.{counted_at, counted_outs, recount_at}
+use Rattle.loans.proofs.Recounting.{counted_at, recount_at}
 use Rattle.loans.proofs.Allowed.{may_paint, stroke_inside, ours}
 
 -- a loan of a job has no more strokes than its shelf has marks
-pub few_strokes : (s : Job) (v : Stock) (k : ℕ) → Fits v → are_ours (book_of s) v ≡ true → k < length (outs s.ledger)
-    → (get_or (outs s.ledger) k no_loan).strokes ≤ 1073741824
-few_strokes s v k fits e h =
-    let o = ours (book_of s) v e in
-    omega (arith, counted_at (outs s.ledger) v.marks o.counted k h, marks_few (get_or (outs s.ledger) k no_loan).number v.marks, fits.marks, fits.marks_capped)
+pub few_strokes : (b : Book) (v : Stock) (k : ℕ) → Fits v → are_ours b v ≡ true → k < length b.outs → (get_or b.outs k no_loan).strokes ≤ 1073741824
+few_strokes b v k fits e h =
+    let o = ours b v e in
+    omega (arith, counted_at b.outs v.marks o.counted k h, marks_few (get_or b.outs k no_loan).number v.marks, fits.marks, fits.marks_capped)
 
 -- the tests of a paint, passed
-pub paint_at : (s : Job) (f : List ℕ) (v : Stock) (p : Painting) (k at : ℕ) → Fits v → paint_refusal (state_of s f v) p ≡ None
-    → StandsAt (outs s.ledger) p.loan k → at ≡ stroke_place (the_loan (outs s.ledger) p.loan).area p → PaintAt (state_of s f v) p k at
-paint_at s f v p k at fits none stands is =
-    let may = may_paint (state_of s f v) p none in
-    let in-file = out_inside s.layout.table.length s.ledger s.balanced s.inside k stands.inside _ stands.found in
-    let lies = stroke_inside (the_loan (outs s.ledger) p.loan).area p in-file.1 may.in_row in
+pub paint_at : (s : State) (p : Painting) (k at : ℕ) → Fits s.stock → Orderly s.book → paint_refusal s p ≡ None
+    → StandsAt s.book.outs p.loan k → at ≡ stroke_place (the_loan s.book.outs p.loan).area p → PaintAt s p k at
+paint_at s p k at fits orderly none stands is =
+    let may = may_paint s p none in
+    let in-file = out_inside s.book orderly k stands.inside _ stands.found in
+    let lies = stroke_inside (the_loan s.book.outs p.loan).area p in-file.1 may.in_row in
     record {
       none = none;
       loan = stands;
       place = is;
       inside = omega (arith, lies.1, in-file.0, may.sized, is);
-      few = few_strokes s v k fits may.ours stands.inside;
+      few = few_strokes s.book s.stock k fits may.ours stands.inside;
     }
 
 -- one mark more
@@ -51,38 +50,23 @@ marks_push n (x ∷ ms) m = go (of_loan n x) (of_loan n m) (marks_push n ms m)
     go false true e = e
     go false false e = e
 
--- a job whose ledger has one count of strokes anew, and the counts of its shelves, is the job recounted
-pub recounts : (s t : Job) (k n : ℕ) (v w : Stock) → are_ours (book_of s) v ≡ true → StandsAt (outs s.ledger) n k
-    → ((m : ℕ) → m ≢ n → marks_of m w.marks ≡ marks_of m v.marks) → t.layout ≡ s.layout
-    → t.ledger ≡ ledger_counted s.ledger k (marks_of n w.marks) (length w.marks) (length w.bytes)
-    → book_of t ≡ recounted (book_of s) w
-recounts s t k n v w e stands others layout ledger =
-    let o = ours (book_of s) v e in
-    let out : k < s.ledger.out = omega (arith, stands.inside, out_count s.ledger s.balanced) in
-    let loans : outs t.ledger ≡ map (counted_loan w.marks) (outs s.ledger) =
-    ap outs ledger ∙ counted_outs s.ledger s.balanced k (marks_of n w.marks) (length w.marks) (length w.bytes) out
-    ∙ recount_at (outs s.ledger) v.marks w.marks n k o.counted s.rising stands others in
-    λ i. record {
-      table = (layout i).table;
-      number = (ledger i).number;
-      outs = loans i;
-      granted = (ledger i).granted;
-      kept = (ledger i).kept;
-      cancelled = (ledger i).cancelled;
-      marks = (ledger i).marks;
-      bytes = (ledger i).bytes;
-    }
+-- a job that has one count of strokes anew, and the counts of its shelves, is the job recounted
+pub recounts : (s t : Book) (k n : ℕ) (v w : Stock) → NumbersRise s.outs → are_ours s v ≡ true → StandsAt s.outs n k
+    → ((m : ℕ) → m ≢ n → marks_of m w.marks ≡ marks_of m v.marks) → t ≡ book_counted s k (marks_of n w.marks) w → t ≡ recounted s w
+recounts s t k n v w rising e stands others is =
+    is ∙ ap (λ (ls : List Loan). let b : Book = record s { outs = ls; marks = length w.marks; bytes = length w.bytes } in b)
+    (recount_at s.outs v.marks w.marks n k (ours s v e).counted rising stands others)
 
 -- the steps of a paint: what they left, and what each is
-pub record PaintSteps (s t : Job) (f f' : List ℕ) (v w : Stock) (p : Painting) (k at n : ℕ) : Type 0 where
+pub record PaintSteps (s t : Book) (f f' : List ℕ) (v w : Stock) (p : Painting) (k at n : ℕ) : Type 0 where
   pub tested : PaintAt (state_of s f v) p k at
   pub shelved : w ≡ stock_with v (record { loan = p.loan; place = at; length = length p.laid }) (take (at + length p.laid - at) (drop at f))
   pub laid : f' ≡ paste f at p.laid (length p.laid)
-  pub strokes : n ≡ (get_or (outs s.ledger) k no_loan).strokes
-  pub layout : t.layout ≡ s.layout
-  pub ledger : t.ledger ≡ ledger_counted s.ledger k (n + 1) (length w.marks) (length w.bytes)
+  pub strokes : n ≡ (get_or s.outs k no_loan).strokes
+  pub rising : NumbersRise s.outs
+  pub book : t ≡ book_counted s k (n + 1) w
 
-module _ {s t : Job} {f f' : List ℕ} {v w : Stock} {p : Painting} {k at n : ℕ} (x : PaintSteps s t f f' v w p k at n) where
+module _ {s t : Book} {f f' : List ℕ} {v w : Stock} {p : Painting} {k at n : ℕ} (x : PaintSteps s t f f' v w p k at n) where
   abbrev st : State
   st = state_of s f v
 
@@ -97,9 +81,9 @@ module _ {s t : Job} {f f' : List ℕ} {v w : Stock} {p : Painting} {k at n : �
 
   count_is : n + 1 ≡ marks_of p.loan w.marks
   count_is =
-      let o = ours (book_of s) v (may_paint st p x.tested.none).ours in
+      let o = ours s v (may_paint st p x.tested.none).ours in
       let stands = x.tested.loan in
-      let before = x.strokes ∙ counted_at (outs s.ledger) v.marks o.counted k stands.inside ∙ ap (λ y. marks_of y v.marks) stands.number in
+      let before = x.strokes ∙ counted_at s.outs v.marks o.counted k stands.inside ∙ ap (λ y. marks_of y v.marks) stands.number in
       let one = marks_push p.loan v.marks mark ∙ cond-true (of_loan p.loan mark) _ _ (eq-eqb p.loan p.loan refl) in
       let all = ap (λ (y : Stock). marks_of p.loan y.marks) x.shelved in
       omega (arith, before, one, all)
@@ -107,17 +91,16 @@ module _ {s t : Job} {f f' : List ℕ} {v w : Stock} {p : Painting} {k at n : �
   others : (m : ℕ) → m ≢ p.loan → marks_of m w.marks ≡ marks_of m v.marks
   others m ne = ap (λ (y : Stock). marks_of m y.marks) x.shelved ∙ marks_push m v.marks mark ∙ cond-false (of_loan m mark) _ _ (ne_eqb m p.loan ne)
 
-  book_is : book_of t ≡ recounted (book_of s) w
+  book_is : t ≡ recounted s w
   book_is =
-      recounts s t k p.loan v w (may_paint st p x.tested.none).ours x.tested.loan others x.layout
-      (x.ledger ∙ ap (λ y. ledger_counted s.ledger k y (length w.marks) (length w.bytes)) count_is)
+      recounts s t k p.loan v w x.rising (may_paint st p x.tested.none).ours x.tested.loan others (x.book ∙ ap (λ i. book_counted s k i w) count_is)
 
   pub paint_carried : Carried (paint p) st (n + 1) (state_of t f' w)
   paint_carried = record {
     none = x.tested.none;
     answer = count_is ∙ ap (λ (y : Stock). marks_of p.loan y.marks) stock_is;
     state = λ i. record {
-      book = (book_is ∙ ap (recounted (book_of s)) stock_is) i;
+      book = (book_is ∙ ap (recounted s) stock_is) i;
       file = (x.laid ∙ ap (λ y. paste f y p.laid (length p.laid)) x.tested.place) i;
       stock = stock_is i;
     };

@@ -2,14 +2,16 @@
 use Rattle.std.proofs.Common.{◌≡◌, ℕ, zero, suc, ◌+◌, ◌*◌, ◌<◌, ◌≤◌, true, ◌≢◌, ◌⊎◌, List, [], ◌∷◌, map, length, get_or, take, set, sym, refl, ap, ◌∙◌, subst, subst₂, inl, inr, ⊎_elim, arith, length-set, length-take-le, get_or-set_other, get_or-set_same}
 use Rattle.std.proofs.lemmas.List.{ext_get_or, length-map, get_or-take}
 use Rattle.std.proofs.lemmas.Bool.{cases_order, eqb-true, and_parts}
+use Rattle.dds.specs.declared.layout.Layout.{Layout}
 use Rattle.loans.specs.declared.ledger.Ledger.{Ledger}
 use Rattle.loans.specs.declared.ledger.Loan.{Loan}
 use Rattle.loans.specs.declared.mark.Mark.{Mark}
-use Rattle.loans.specs.Books.{Balanced, Inside, NumbersGiven, NumbersRise, outs, no_loan, loan_with}
-use Rattle.loans.specs.Stocks.{marks_of, all_counted}
+use Rattle.loans.specs.Books.{InOrder, Balanced, Inside, NumbersGiven, NumbersRise, outs, no_loan, loan_with}
+use Rattle.loans.specs.Jobs.{book_in}
+use Rattle.loans.specs.Stocks.{Stock, marks_of, all_counted}
 use Rattle.loans.specs.Strokes.{counted_loan}
 use Rattle.loans.specs.Finding.{StandsAt}
-use Rattle.loans.specs.Writing.{ledger_counted}
+use Rattle.loans.specs.Writing.{ledger_counted, book_counted}
 use Rattle.loans.proofs.Counting.{rise_in, rise_from}
 
 -- two positions are the same or not
@@ -115,3 +117,22 @@ module _ (l : Ledger) (b : Balanced l) (k n m y : ℕ) (out : k < l.out) where
       let d = b.1 in
       rise_from (ledger_counted l k n m y) (omega (arith, length-set l.loans k (loan_with (get_or l.loans k no_loan) n)))
       (λ i j h f. subst₂ (λ (x y : Loan). x.number < y.number) (sym (same_loan i)) (sym (same_loan j)) (rise_in l b rising i j h f))
+
+  pub counted_in_order : (a : ℕ) → InOrder a l → InOrder a (ledger_counted l k n m y)
+  counted_in_order a o = record { balanced = counted_balanced; inside = counted_inside a o.inside; given = counted_given o.given; rising = counted_rising o.rising }
+
+  -- a job's book, with these counts
+  pub counted_in : (z : Layout) (stock : Stock) → m ≡ length stock.marks → y ≡ length stock.bytes
+      → book_in z (ledger_counted l k n m y) ≡ book_counted (book_in z l) k n stock
+  counted_in z stock marks' bytes' =
+      let outs' = counted_outs in
+      λ i. record {
+        layout = z;
+        number = l.number;
+        outs = outs' i;
+        granted = l.granted;
+        kept = l.kept;
+        cancelled = l.cancelled;
+        marks = marks' i;
+        bytes = bytes' i;
+      }

@@ -5,39 +5,26 @@ use Rattle.std.proofs.lemmas.Bool.{and_parts, eqb-true}
 use Rattle.refusal.specs.declared.Refusal.{Refusal}
 use Rattle.dds.specs.declared.layout.Layout.{Layout}
 use Rattle.loans.specs.declared.docket.Docket.{Docket}
-use Rattle.loans.specs.declared.job.Job.{Job}
-use Rattle.loans.specs.Jobs.{book_of, fresh_book}
-use Rattle.loans.specs.Stocks.{Stock, are_ours}
+use Rattle.loans.specs.Jobs.{Book, fresh_book}
+use Rattle.loans.specs.Stocks.{Stock, SameRoom, are_ours}
 use Rattle.loans.specs.Strokes.{State, state_of}
 use Rattle.loans.specs.Rules.{answers_to, after_all}
 use Rattle.loans.specs.History.{history_of}
 use Rattle.loans.specs.Law.{Law}
 use Rattle.loans.specs.Runs.{opened_state, is_empty, OursAlong, AllDone, Ordered, FileOpened, RanSo}
 use Rattle.loans.proofs.Calls.{answers_to_length}
+use Rattle.loans.proofs.Limits.{same_after_all}
 use Rattle.loans.proofs.Runs.{law_run, ours_run}
 
--- what the opening of a run gave
-pub record OpenedJob (o : Ordered) (t : Job) : Type 0 where
-  pub opened : FileOpened o (Ok t.layout)
-  pub book : book_of t ≡ fresh_book t.layout.table (Some o.number)
-
--- a job made of the layout that was read
-pub made_job : (o : Ordered) (t : Job) (y : Layout) → FileOpened o (Ok y)
-    → t.layout ≡ y → book_of t ≡ fresh_book y.table (Some o.number) → OpenedJob o t
-made_job o t y opened layout book = record {
-  opened = subst (λ (x : Layout). FileOpened o (Ok x)) (sym layout) opened;
-  book = book ∙ ap (λ (x : Layout). fresh_book x.table (Some o.number)) (sym layout);
-}
-
-module _ (o : Ordered) (t : Job) (x : OpenedJob o t) where
+module _ (o : Ordered) (t : Book) (y : Layout) (opened : FileOpened o (Ok y)) (book : t ≡ fresh_book y (Some o.number)) where
   abbrev first : State
-  first = opened_state t.layout.table o.number o.file o.shelves
+  first = opened_state y o.number o.file o.shelves
 
   first_is : state_of t o.file o.shelves ≡ first
-  first_is = λ i. record { book = x.book i; file = o.file; stock = o.shelves }
+  first_is = λ i. record { book = book i; file = o.file; stock = o.shelves }
 
-  sized : length o.file ≡ t.layout.table.length
-  sized = sym x.opened.table.length
+  sized : length o.file ≡ y.table.length
+  sized = sym opened.table.length
 
   -- shelves that are empty at first are the job's all along
   pub opened_along : (known : Bool) → known ≡ is_empty o.shelves → OursAlong known (state_of t o.file o.shelves) o.calls
@@ -47,15 +34,15 @@ module _ (o : Ordered) (t : Job) (x : OpenedJob o t) where
       let marks : k.marks ≡ [] = nil_from_length k.marks (eqb-true _ _ both.0) in
       let bytes : k.bytes ≡ [] = nil_from_length k.bytes (eqb-true _ _ both.1) in
       subst (λ (s : State). are_ours (after_all s (take i o.calls)).book (after_all s (take i o.calls)).stock ≡ true) (sym first_is)
-      (ours_run t.layout o.number o.file k (take i o.calls) sized marks bytes).0
+      (ours_run y o.number o.file k (take i o.calls) sized marks bytes).0
 
   pub run_made : (d : Docket) → d.0 ≡ o.number → length o.old + length o.calls ≤ o.room → (u : State) (old new : List (Result ℕ Refusal)) → old ≡ o.old
       → AllDone o.calls (state_of t o.file o.shelves) old u new → RanSo o d u new
   run_made d docket room u old new same done =
       let is : u ≡ after_all first o.calls = done.state ∙ ap (λ (s : State). after_all s o.calls) first_is in
       record {
-        layout = t.layout;
-        opened = x.opened;
+        layout = y;
+        opened = opened;
         docket = docket;
         room = room;
         given = answers_to first o.calls;
@@ -63,6 +50,7 @@ module _ (o : Ordered) (t : Job) (x : OpenedJob o t) where
         each = answers_to_length first o.calls;
         by_rules = refl;
         state = is;
-        law = λ marks bytes. subst (Law t.layout o.number o.shelves.most_marks o.shelves.most_bytes o.file (history_of o.calls (answers_to first o.calls))) (sym is)
-            (law_run t.layout o.number o.file o.shelves o.calls sized marks bytes);
+        same_room = subst (λ (s : State). SameRoom o.shelves s.stock) (sym is) (same_after_all first o.calls);
+        law = λ marks bytes. subst (Law y o.number o.shelves.most_marks o.shelves.most_bytes o.file (history_of o.calls (answers_to first o.calls))) (sym is)
+            (law_run y o.number o.file o.shelves o.calls sized marks bytes);
       }

@@ -39,18 +39,18 @@ module _ (y : Layout) (number mm mb : ℕ) (opening : List ℕ) (lawful : Lawful
   FineIn h = Fine t mm mb opening (lent t h) (out_in t h) (keeps_in h) (cancels_in h) (standing t opening h) (ever_laid t opening h)
 
   abbrev NextIn : State → List Event → Type 0
-  NextIn s h = Next t number mm mb opening s (lent t h) (out_in t h) (keeps_in h) (cancels_in h) (standing t opening h) (ever_laid t opening h)
+  NextIn s h = Next y number mm mb opening s (lent t h) (out_in t h) (keeps_in h) (cancels_in h) (standing t opening h) (ever_laid t opening h)
 
   abbrev here : List Event → State
-  here h = told t number mm mb opening h
+  here h = told y number mm mb opening h
 
   carried : (h : List Event) → FineIn h → (d : Deed) → call_refusal (here h) d ≡ None
       → NextIn (carried_out (here h) d) (record { call = d; answer = refusal_or None (number_for (carried_out (here h) d) d) } ∷ h)
-  carried h f (lend p who) e = step_lend t number mm mb opening (lent t h) (out_in t h) (keeps_in h) (cancels_in h) (standing t opening h) (ever_laid t opening h) lawful f p who e
-  carried h f (paint p) e = step_paint t number mm mb opening (lent t h) (out_in t h) (keeps_in h) (cancels_in h) (standing t opening h) (ever_laid t opening h) lawful f p e
-  carried h f (undo n who) e = step_undo t number mm mb opening (lent t h) (out_in t h) (keeps_in h) (cancels_in h) (standing t opening h) (ever_laid t opening h) lawful f n who e
-  carried h f (keep n) e = step_keep t number mm mb opening (lent t h) (out_in t h) (keeps_in h) (cancels_in h) (standing t opening h) (ever_laid t opening h) lawful f n e
-  carried h f (cancel n) e = step_cancel t number mm mb opening (lent t h) (out_in t h) (keeps_in h) (cancels_in h) (standing t opening h) (ever_laid t opening h) lawful f n e
+  carried h f (lend p who) e = step_lend y number mm mb opening (lent t h) (out_in t h) (keeps_in h) (cancels_in h) (standing t opening h) (ever_laid t opening h) lawful f p who e
+  carried h f (paint p) e = step_paint y number mm mb opening (lent t h) (out_in t h) (keeps_in h) (cancels_in h) (standing t opening h) (ever_laid t opening h) lawful f p e
+  carried h f (undo n who) e = step_undo y number mm mb opening (lent t h) (out_in t h) (keeps_in h) (cancels_in h) (standing t opening h) (ever_laid t opening h) lawful f n who e
+  carried h f (keep n) e = step_keep y number mm mb opening (lent t h) (out_in t h) (keeps_in h) (cancels_in h) (standing t opening h) (ever_laid t opening h) lawful f n e
+  carried h f (cancel n) e = step_cancel y number mm mb opening (lent t h) (out_in t h) (keeps_in h) (cancels_in h) (standing t opening h) (ever_laid t opening h) lawful f n e
 
   step : (h : List Event) → FineIn h → (d : Deed) → NextIn (after (here h) d) (record { call = d; answer = answer_to (here h) d } ∷ h)
   step h f d = go (call_refusal (here h) d) refl
@@ -61,16 +61,16 @@ module _ (y : Layout) (number mm mb : ℕ) (opening : List ℕ) (lawful : Lawful
       go (Some x) e = record { state = refl; fine = f }
 
   here_ours : (h : List Event) → FineIn h → are_ours (here h).book (here h).stock ≡ true
-  here_ours h f = told_ours t number mm mb opening (lent t h) (out_in t h) (keeps_in h) (cancels_in h) (standing t opening h) f.good
+  here_ours h f = told_ours y number mm mb opening (lent t h) (out_in t h) (keeps_in h) (cancels_in h) (standing t opening h) f.good
 
   taken_as_own : (h : List Event) → FineIn h → (d : Deed) → TakenAsOwn (record { call = d; answer = answer_to (here h) d })
   taken_as_own h f d =
       homely_answer (call_refusal (here h) d) _
-      (homely (here h) (told_same t number mm mb opening (lent t h) (out_in t h) (keeps_in h) (cancels_in h) (standing t opening h) same) (here_ours h f) d)
+      (homely (here h) (told_same y number mm mb opening (lent t h) (out_in t h) (keeps_in h) (cancels_in h) (standing t opening h) same) (here_ours h f) d)
 
   -- what holds after a history
   record Stands (s : State) (h : List Event) : Type 0 where
-    answers : Answered t number mm mb opening h
+    answers : Answered y number mm mb opening h
     own : AllByRecursion TakenAsOwn h
     state : s ≡ here h
     fine : FineIn h
@@ -109,7 +109,7 @@ module _ (y : Layout) (number mm mb : ℕ) (opening : List ℕ) (lawful : Lawful
         marks_fit = subst (λ (n : ℕ). n ≤ mm) (sym (ap (λ (x : State). length x.stock.marks) e ∙ length-map (undoable (out_in t h) ss) mark_of)) f.good.fits.marks;
         bytes_fit = subst (λ (n : ℕ). n ≤ mb) (sym (ap (λ (x : State). length x.stock.bytes) e)) f.good.fits.bytes;
         numbered = ap (λ (x : State). x.book.number) e;
-        table = ap (λ (x : State). x.book.table) e;
+        layout = ap (λ (x : State). x.book.layout) e;
         loans = ap (λ (x : State). x.book.outs) e ∙ ap (λ ms. map (counted_loan ms) (out_in t h)) (sym (ap (λ (x : State). x.stock.marks) e));
         strokes = subst (λ (x : State). AllByRecursion (CountsMarks x.stock.marks) x.book.outs) (sym e) (all_count_marks (here h).stock.marks (out_in t h));
         granted = ap (λ (x : State). x.book.granted) e;
@@ -134,29 +134,29 @@ module _ (y : Layout) (number mm mb : ℕ) (opening : List ℕ) (lawful : Lawful
         ap (λ (x : State). length x.file) e ∙ told_length opening (standing t opening h) ∙ same,
       )
 
-  opened : (k : Stock) → k.marks ≡ [] → k.bytes ≡ [] → k.most_marks ≡ mm → k.most_bytes ≡ mb → Stands (opened_state t number opening k) []
+  opened : (k : Stock) → k.marks ≡ [] → k.bytes ≡ [] → k.most_marks ≡ mm → k.most_bytes ≡ mb → Stands (opened_state y number opening k) []
   opened k a b c d =
       let file' = fill_by_all (byte_under opening []) opening (length opening) 0 refl (λ i h. refl) in
       record {
         answers = tt;
         own = tt;
-        state = λ i. record { book = fresh_book t (Some number); file = file' i; stock = record { marks = a i; bytes = b i; most_marks = c i; most_bytes = d i } };
+        state = λ i. record { book = fresh_book y (Some number); file = file' i; stock = record { marks = a i; bytes = b i; most_marks = c i; most_bytes = d i } };
         fine = record { good = good_none t mm mb opening; rows = tt; balance = refl };
       }
 
 -- the law over every list of calls on a job just opened
 pub law_run : (y : Layout) (number : ℕ) (file : List ℕ) (k : Stock) (ds : List Deed) → length file ≡ y.table.length → k.marks ≡ [] → k.bytes ≡ []
-    → Law y number k.most_marks k.most_bytes file (history_of ds (answers_to (opened_state y.table number file k) ds))
-    (after_all (opened_state y.table number file k) ds)
+    → Law y number k.most_marks k.most_bytes file (history_of ds (answers_to (opened_state y number file k) ds))
+    (after_all (opened_state y number file k) ds)
 law_run y number file k ds e a b =
     let l : Lawful y.table (length file) = subst (Lawful y.table) (sym e) (lawful y) in
     stands_law y number k.most_marks k.most_bytes file l e _ _
-    (all_stand_lem y number k.most_marks k.most_bytes file l e ds (opened_state y.table number file k) []
+    (all_stand_lem y number k.most_marks k.most_bytes file l e ds (opened_state y number file k) []
     (opened y number k.most_marks k.most_bytes file l e k a b refl refl))
 
 -- the law's clauses together give job, file and shelves back as the history tells them
 pub told_again : (y : Layout) (number mm mb : ℕ) (opening : List ℕ) (h : List Event) (s : State) → Law y number mm mb opening h s
-    → s ≡ told y.table number mm mb opening h
+    → s ≡ told y number mm mb opening h
 told_again y number mm mb opening h s law =
     let file' = fill_by_all (byte_under opening (standing y.table opening h)) s.file (length opening) 0 law.same_length law.each_byte in
     let outs' = law.loans ∙ ap (λ ms. map (counted_loan ms) (out_in y.table h)) law.marks in
@@ -164,7 +164,7 @@ told_again y number mm mb opening h s law =
     let bytes' = law.byte_count ∙ ap length law.kept_bytes in
     λ i. record {
       book = record {
-        table = law.table i;
+        layout = law.layout i;
         number = law.numbered i;
         outs = outs' i;
         granted = law.granted i;
@@ -179,12 +179,12 @@ told_again y number mm mb opening h s law =
 
 -- after every list of calls the shelves are the job's, and the file has the job's length
 pub ours_run : (y : Layout) (number : ℕ) (file : List ℕ) (k : Stock) (ds : List Deed) → length file ≡ y.table.length → k.marks ≡ [] → k.bytes ≡ []
-    → (let s : State = after_all (opened_state y.table number file k) ds in
+    → (let s : State = after_all (opened_state y number file k) ds in
     (are_ours s.book s.stock ≡ true) × (length s.file ≡ y.table.length))
 ours_run y number file k ds e a b =
     let l : Lawful y.table (length file) = subst (Lawful y.table) (sym e) (lawful y) in
     stands_ours y number k.most_marks k.most_bytes file l e _ _
-    (all_stand_lem y number k.most_marks k.most_bytes file l e ds (opened_state y.table number file k) []
+    (all_stand_lem y number k.most_marks k.most_bytes file l e ds (opened_state y number file k) []
     (opened y number k.most_marks k.most_bytes file l e k a b refl refl))
 
 -- what holds of every stroke ever laid holds of those that stand

@@ -5,12 +5,11 @@ use Rattle.std.proofs.lemmas.List.Edits.{length-paste}
 use Rattle.std.proofs.lemmas.List.{length-append, length-map, drop_more}
 use Rattle.refusal.specs.declared.Refusal.{Refusal}
 use Rattle.std.proofs.lemmas.Bool.{not_from_true, cond-false, and_parts, and_from, eqb-true, eqb-false, eq-eqb, ne_eqb}
-use Rattle.loans.specs.declared.job.Job.{Job}
 use Rattle.loans.specs.declared.ledger.Loan.{Loan}
 use Rattle.loans.specs.declared.mark.Mark.{Mark}
 use Rattle.loans.specs.Lists.{less_all}
-use Rattle.loans.specs.Books.{no_loan, outs}
-use Rattle.loans.specs.Jobs.{book_of}
+use Rattle.loans.specs.Books.{no_loan}
+use Rattle.loans.specs.Jobs.{Book, Orderly}
 use Rattle.loans.specs.Stocks.{Stock, is_number, is_out, the_loan, of_loan, lengths, lies_in, is_sound, all_sound, are_ours}
 use Rattle.loans.specs.Strokes.{State, state_of, is_other_length, counted_loan}
 use Rattle.loans.specs.Ending.{bytes_of, stock_without, restored, InFile, cancel_refusal, cancelled, all_cancelled}
@@ -19,7 +18,6 @@ use Rattle.loans.specs.Rules.Deed.{cancel}
 use Rattle.loans.specs.Calls.{Called}
 use Rattle.loans.specs.Scrapping.{AtHome}
 use Rattle.loans.proofs.Allowed.{ours}
-use Rattle.loans.proofs.Counting.{out_count}
 use Rattle.loans.proofs.Slots.{stands_first}
 use Rattle.loans.proofs.Ended.{less_here}
 use Rattle.loans.proofs.Undone.{marks_in_file}
@@ -111,31 +109,28 @@ pub record Cancelling (s₀ s : State) : Type 0 where
   pub home : AtHome s
   pub rest : all_cancelled s.book.outs s ≡ all_cancelled s₀.book.outs s₀
 
-module _ (s₀ : State) (s : Job) (f : List ℕ) (v : Stock) (c : Cancelling s₀ (state_of s f v)) (some : 0 < s.ledger.out) (n : ℕ)
-    (first : n ≡ (get_or (outs s.ledger) 0 no_loan).number) where
+module _ (s₀ : State) (s : Book) (orderly : Orderly s) (f : List ℕ) (v : Stock) (c : Cancelling s₀ (state_of s f v)) (some : 0 < length s.outs) (n : ℕ)
+    (first : n ≡ (get_or s.outs 0 no_loan).number) where
   abbrev ls : List Loan
-  ls = outs s.ledger
-
-  inside : 0 < length ls
-  inside = omega (arith, out_count s.ledger s.balanced)
+  ls = s.outs
 
   stands : StandsAt ls n 0
-  stands = stands_first ls n 0 inside (λ j h. absurd (omega arith)) (sym first)
+  stands = stands_first ls n 0 some (λ j h. absurd (omega arith)) (sym first)
 
   left_is : less_all (is_number n) ls ≡ drop 1 ls
-  left_is = less_here ls n 0 s.rising stands
+  left_is = less_here ls n 0 orderly.rising stands
 
   all_is : ls ≡ get_or ls 0 no_loan ∷ drop 1 ls
-  all_is = drop_more ls 0 no_loan inside
+  all_is = drop_more ls 0 no_loan some
 
   none : cancel_refusal (state_of s f v) n ≡ None
   none =
       cond-false (is_other_length (state_of s f v)) _ _ (not_from_true _ (eq-eqb _ _ c.home.sized))
-      ∙ cond-false (not (is_out ls n)) _ _ (not_from_true _ stands.out) ∙ cond-false (not (are_ours (book_of s) v)) _ _ (not_from_true _ c.home.ours)
+      ∙ cond-false (not (is_out ls n)) _ _ (not_from_true _ stands.out) ∙ cond-false (not (are_ours s v)) _ _ (not_from_true _ c.home.ours)
 
   next : Cancelling s₀ (cancelled (state_of s f v) n)
   next = record {
-    home = still_home (state_of s f v) n c.home (subst (λ k. InFile k v.marks) (sym c.home.sized) (marks_in_file s v c.home.ours));
+    home = still_home (state_of s f v) n c.home (subst (λ k. InFile k v.marks) (sym c.home.sized) (marks_in_file s orderly v c.home.ours));
     rest =
         counted_cancelled (stock_without v n).marks (less_all (is_number n) ls) (cancelled (state_of s f v) n)
         ∙ ap (λ (xs : List Loan). all_cancelled xs (cancelled (state_of s f v) n)) left_is
@@ -143,19 +138,17 @@ module _ (s₀ : State) (s : Job) (f : List ℕ) (v : Stock) (c : Cancelling s�
         ∙ sym (ap (λ (xs : List Loan). all_cancelled xs (state_of s f v)) all_is) ∙ c.rest;
   }
 
-  pub cancelled_one : (t : Job) (f' : List ℕ) (w : Stock) (r : Result ℕ Refusal) → Called (cancel n) s f v r t f' w
-      → Cancelling s₀ (state_of t f' w) × (t.ledger.out < s.ledger.out)
+  pub cancelled_one : (t : Book) (f' : List ℕ) (w : Stock) (r : Result ℕ Refusal) → Called (cancel n) s f v r t f' w
+      → Cancelling s₀ (state_of t f' w) × (length t.outs < length s.outs)
   cancelled_one t f' w (Ok a) called = (
     subst (Cancelling s₀) (sym called.state) next,
     omega (
       arith,
-      out_count s.ledger s.balanced,
-      out_count t.ledger t.balanced,
       ap (λ (x : State). length x.book.outs) called.state,
       length-map (less_all (is_number n) ls) (counted_loan (stock_without v n).marks),
       ap length left_is,
       length-drop 1 ls,
-      inside,
+      some,
     ),
   )
   cancelled_one t f' w (Err e) called =

@@ -7,6 +7,7 @@ use Rattle.std.proofs.lemmas.List.{length-map, length-append, map_push}
 use Rattle.std.proofs.lemmas.Bool.{not-false, or_parts, leb-false, ltb-false, eqb-false, eqb-true, ne_eqb}
 use Rattle.dds.specs.declared.area.Area.{Area}
 use Rattle.dds.specs.declared.piece.Piece.{Piece}
+use Rattle.dds.specs.declared.layout.Layout.{Layout}
 use Rattle.dds.specs.declared.table.Table.{Table}
 use Rattle.dds.specs.Places.{exists_in, area_in}
 use Rattle.loans.specs.declared.ledger.Loan.{Loan}
@@ -37,9 +38,9 @@ pub record Fine (t : Table) (mm mb : ℕ) (opening : List ℕ) (ls os : List Loa
   pub balance : length ls ≡ keeps + cancels + length os
 
 -- what a call leaves
-pub record Next (t : Table) (number mm mb : ℕ) (opening : List ℕ) (s : State) (ls os : List Loan) (keeps cancels : ℕ) (ss old : List Stroke) : Type 0 where
-  pub state : s ≡ told_by t number mm mb opening ls os keeps cancels ss
-  pub fine : Fine t mm mb opening ls os keeps cancels ss old
+pub record Next (y : Layout) (number mm mb : ℕ) (opening : List ℕ) (s : State) (ls os : List Loan) (keeps cancels : ℕ) (ss old : List Stroke) : Type 0 where
+  pub state : s ≡ told_by y number mm mb opening ls os keeps cancels ss
+  pub fine : Fine y.table mm mb opening ls os keeps cancels ss old
 
 -- file and shelves changed, and the book counted anew
 changed : (b : Book) (before : Stock) (file file' : List ℕ) (k k' : Stock) → file ≡ file' → k ≡ k'
@@ -48,10 +49,13 @@ changed b before file file' k k' e f =
     ap₂ (λ (x : List ℕ) (y : Stock). let s : State = record { book = recounted (recounted b before) y; file = x; stock = y } in s) e f
     ∙ ap (λ (x : Book). let s : State = record { book = x; file = file'; stock = k' } in s) (recounted_again b before k')
 
-module _ (t : Table) (number mm mb : ℕ) (opening : List ℕ) (ls os : List Loan) (keeps cancels : ℕ) (ss old : List Stroke)
-    (lawful : Lawful t (length opening)) (fine : Fine t mm mb opening ls os keeps cancels ss old) where
+module _ (y : Layout) (number mm mb : ℕ) (opening : List ℕ) (ls os : List Loan) (keeps cancels : ℕ) (ss old : List Stroke)
+    (lawful : Lawful y.table (length opening)) (fine : Fine y.table mm mb opening ls os keeps cancels ss old) where
+  abbrev t : Table
+  t = y.table
+
   abbrev here : State
-  here = told_by t number mm mb opening ls os keeps cancels ss
+  here = told_by y number mm mb opening ls os keeps cancels ss
 
   abbrev shelf : List Mark
   shelf = map mark_of (undoable os ss)
@@ -133,7 +137,7 @@ module _ (t : Table) (number mm mb : ℕ) (opening : List ℕ) (ls os : List Loa
 
   pub step_lend : (p : Piece) (who : ℕ) → loan_refusal here.book p ≡ None
       → (let new : Loan = granting (length ls + 1) p who (area_in t p) in
-      Next t number mm mb opening (carried_out here (lend p who)) (new ∷ ls) (os ++ new ∷ []) keeps cancels ss old)
+      Next y number mm mb opening (carried_out here (lend p who)) (new ∷ ls) (os ++ new ∷ []) keeps cancels ss old)
   step_lend p who e =
       let h = lend_says p e in
       let new : Loan = granting (length ls + 1) p who (area_in t p) in
@@ -150,7 +154,7 @@ module _ (t : Table) (number mm mb : ℕ) (opening : List ℕ) (ls os : List Loa
         state =
             (λ i. record {
               book = record {
-                table = t;
+                layout = y;
                 number = Some number;
                 outs = outs' i;
                 granted = one i;
@@ -162,7 +166,7 @@ module _ (t : Table) (number mm mb : ℕ) (opening : List ℕ) (ls os : List Loa
               file = file';
               stock = k;
             })
-            ∙ ap (λ (v : List Stroke). state_of (plain_book t number (new ∷ ls) (os ++ new ∷ []) keeps cancels) file' (shelved mm mb v))
+            ∙ ap (λ (v : List Stroke). state_of (plain_book y number (new ∷ ls) (os ++ new ∷ []) keeps cancels) file' (shelved mm mb v))
             (sym (undoable_lent t mm mb opening ls os ss fine.good p who h.0 h.1));
         fine = record {
           good = good_lent t mm mb opening ls os ss fine.good p who h.0 h.1;
@@ -179,7 +183,7 @@ module _ (t : Table) (number mm mb : ℕ) (opening : List ℕ) (ls os : List Loa
       record { book = recounted here.book k; file = paste here.file at p.laid (length p.laid); stock = k }
 
   pub step_paint : (p : Painting) → paint_refusal here p ≡ None
-      → Next t number mm mb opening (carried_out here (paint p)) ls os keeps cancels (laying opening os ss p ∷ ss) (laying opening os ss p ∷ old)
+      → Next y number mm mb opening (carried_out here (paint p)) ls os keeps cancels (laying opening os ss p ∷ ss) (laying opening os ss p ∷ old)
   unfolding laid_in
   step_paint p e =
       let h = paint_says p e in
@@ -188,7 +192,7 @@ module _ (t : Table) (number mm mb : ℕ) (opening : List ℕ) (ls os : List Loa
       record {
         state =
             ap (laid_in p) (loan_counted shelf (λ l. l.area) (λ l. refl) os p.loan)
-            ∙ changed (plain_book t number ls os keeps cancels) here.stock _ _ _ _
+            ∙ changed (plain_book y number ls os keeps cancels) here.stock _ _ _ _
             (paint_file os opening stroke ss laid.sized.1) (paint_stock os mm mb opening stroke ss h.out refl laid.sized.1);
         fine = record {
           good = good_paint t mm mb opening ls os ss fine.good lawful p h.out h.some h.low h.short h.one_more h.more;
@@ -198,7 +202,7 @@ module _ (t : Table) (number mm mb : ℕ) (opening : List ℕ) (ls os : List Loa
       }
 
   pub step_undo : (n who : ℕ) → undo_refusal here n who ≡ None
-      → Next t number mm mb opening (carried_out here (undo n who)) ls os keeps cancels (less_first (stroke_of n) ss) old
+      → Next y number mm mb opening (carried_out here (undo n who)) ls os keeps cancels (less_first (stroke_of n) ss) old
   step_undo n who e = go (split (stroke_of n) ss)
     where
       out : is_out os n ≡ true
@@ -207,24 +211,24 @@ module _ (t : Table) (number mm mb : ℕ) (opening : List ℕ) (ls os : List Loa
       sized : AllByRecursion (Sized opening) ss
       sized = all_sized opening ls ss fine.good.laid
 
-      go : Split (stroke_of n) ss ⊎ NoneOf (stroke_of n) ss → Next t number mm mb opening (carried_out here (undo n who)) ls os keeps cancels (less_first (stroke_of n) ss) old
+      go : Split (stroke_of n) ss ⊎ NoneOf (stroke_of n) ss → Next y number mm mb opening (carried_out here (undo n who)) ls os keeps cancels (less_first (stroke_of n) ss) old
       go (inr none) = absurd ((undo_says n who e).1 (count_no os opening n out ss none))
       go (inl s) = record {
-        state = changed (plain_book t number ls os keeps cancels) here.stock _ _ _ _ (undo_file os opening n out ss s fine.good.sound sized) (undo_stock os opening n out mm mb ss s sized);
+        state = changed (plain_book y number ls os keeps cancels) here.stock _ _ _ _ (undo_file os opening n out ss s fine.good.sound sized) (undo_stock os opening n out mm mb ss s sized);
         fine = record { good = good_undo t mm mb opening ls os ss fine.good n out s; rows = fine.rows; balance = fine.balance };
       }
 
   -- a loan that ended, by a book and shelves that are the same in other words
-  ended : (n x y keeps' cancels' : ℕ) (file file' : List ℕ) (k : Stock) → keeps + x ≡ keeps' → cancels + y ≡ cancels' → file ≡ file' → stock_without here.stock n ≡ k
-      → ◌≡◌ {A = State} (record { book = recounted (book_without here.book n x y) (stock_without here.stock n); file = file; stock = stock_without here.stock n })
-      (state_of (plain_book t number ls (less_all (is_number n) os) keeps' cancels') file' k)
-  ended n x y keeps' cancels' file file' k a b c d =
+  ended : (n more less keeps' cancels' : ℕ) (file file' : List ℕ) (k : Stock) → keeps + more ≡ keeps' → cancels + less ≡ cancels' → file ≡ file' → stock_without here.stock n ≡ k
+      → ◌≡◌ {A = State} (record { book = recounted (book_without here.book n more less) (stock_without here.stock n); file = file; stock = stock_without here.stock n })
+      (state_of (plain_book y number ls (less_all (is_number n) os) keeps' cancels') file' k)
+  ended n more less keeps' cancels' file file' k a b c d =
       ap (λ (book' : Book). let s : State = record { book = book'; file = file; stock = stock_without here.stock n } in s)
-      (recounted_without (plain_book t number ls os keeps cancels) here.stock (stock_without here.stock n) n x y)
-      ∙ (λ i. state_of (plain_book t number ls (less_all (is_number n) os) (a i) (b i)) (c i) (d i))
+      (recounted_without (plain_book y number ls os keeps cancels) here.stock (stock_without here.stock n) n more less)
+      ∙ (λ i. state_of (plain_book y number ls (less_all (is_number n) os) (a i) (b i)) (c i) (d i))
 
   pub step_keep : (n : ℕ) → keep_refusal here.book here.stock n ≡ None
-      → Next t number mm mb opening (carried_out here (keep n)) ls (less_all (is_number n) os) (keeps + 1) cancels ss old
+      → Next y number mm mb opening (carried_out here (keep n)) ls (less_all (is_number n) os) (keeps + 1) cancels ss old
   step_keep n e =
       let out = keep_says n e in
       let one = one_less n os fine.good.once out in
@@ -235,7 +239,7 @@ module _ (t : Table) (number mm mb : ℕ) (opening : List ℕ) (ls os : List Loa
       }
 
   pub step_cancel : (n : ℕ) → cancel_refusal here n ≡ None
-      → Next t number mm mb opening (carried_out here (cancel n)) ls (less_all (is_number n) os) keeps (cancels + 1) (less_all (stroke_of n) ss) old
+      → Next y number mm mb opening (carried_out here (cancel n)) ls (less_all (is_number n) os) keeps (cancels + 1) (less_all (stroke_of n) ss) old
   step_cancel n e =
       let out = cancel_says n e in
       let one = one_less n os fine.good.once out in

@@ -2,18 +2,17 @@
 use Rattle.std.proofs.Common.{◌≡◌, ℕ, zero, suc, ◌+◌, ◌-◌, ◌<◌, ◌≤◌, Bool, true, false, cond, ◌&&◌, eqb, leb, ◌≢◌, List, [], ◌∷◌, ◌++◌, length, get_or, take, drop, sym, refl, ap, ◌∙◌, arith, ◌||◌}
 use Rattle.std.proofs.lemmas.Bool.{false≢true, cond-true, cond-false, and_parts, leb-true, eqb-true, ne_eqb}
 use Rattle.dds.specs.declared.area.Area.{Area}
-use Rattle.loans.specs.declared.job.Job.{Job}
 use Rattle.loans.specs.declared.ledger.Loan.{Loan}
 use Rattle.loans.specs.declared.mark.Mark.{Mark}
-use Rattle.loans.specs.Books.{no_loan, outs}
-use Rattle.loans.specs.Jobs.{book_of}
+use Rattle.loans.specs.Books.{no_loan, NumbersRise}
+use Rattle.loans.specs.Jobs.{Book, Orderly}
 use Rattle.loans.specs.Stocks.{Stock, is_out, the_loan, of_loan, marks_of, lengths, are_ours, is_sound, all_sound, lies_in}
 use Rattle.loans.specs.Strokes.{State, state_of, HeldAt, undone_stock, recounted}
 use Rattle.loans.specs.Taking.{no_mark, NewestAt, file_less, stock_less, UndoAt}
 use Rattle.loans.specs.Ending.{InFile}
 use Rattle.loans.specs.Rules.Deed.{undo}
 use Rattle.loans.specs.Calls.{Carried}
-use Rattle.loans.specs.Writing.{ledger_counted}
+use Rattle.loans.specs.Writing.{book_counted}
 use Rattle.loans.proofs.Counting.{out_inside}
 use Rattle.loans.proofs.Recounting.{counted_at}
 use Rattle.loans.proofs.Allowed.{ours, may_undo}
@@ -70,18 +69,18 @@ module _ (st : Stock) (n k begin : ℕ) (at : NewestAt st.marks n k begin) (x : 
       omega (arith, count_with, count_without, here)
 
 -- the tests of an undo, passed
-pub undo_at : (s : Job) (f : List ℕ) (v : Stock) (n who k position begin : ℕ) → HeldAt (state_of s f v) n who k
-    → NewestAt v.marks n position begin → UndoAt (state_of s f v) n who k position begin
-undo_at s f v n who k position begin held newest =
-    let o = ours (book_of s) v held.ours in
-    let st = v in
+pub undo_at : (s : State) (n who k position begin : ℕ) → HeldAt s n who k → NewestAt s.stock.marks n position begin → UndoAt s n who k position begin
+undo_at s n who k position begin held newest =
+    let ls = s.book.outs in
+    let v = s.stock in
+    let o = ours s.book v held.ours in
     let m = get_or v.marks position no_mark in
-    let some : 0 < marks_of n v.marks = omega (arith, one_less st n position begin newest n refl) in
-    let lies = sound_end (outs s.ledger) m (sound_at (outs s.ledger) v.marks o.sound position newest.inside) in
+    let some : 0 < marks_of n v.marks = omega (arith, one_less v n position begin newest n refl) in
+    let lies = sound_end ls m (sound_at ls v.marks o.sound position newest.inside) in
     let of-n : n ≡ m.loan = eqb-true n _ newest.loan in
-    let is : the_loan (outs s.ledger) m.loan ≡ get_or (outs s.ledger) k no_loan = ap (the_loan (outs s.ledger)) (sym of-n) ∙ held.loan.found in
-    let in-file = out_inside s.layout.table.length s.ledger s.balanced s.inside k held.loan.inside _ is in
-    let all = ap lengths (parts n position begin st newest) ∙ lengths_append (take position v.marks) (m ∷ drop (position + 1) v.marks) in
+    let is : the_loan ls m.loan ≡ get_or ls k no_loan = ap (the_loan ls) (sym of-n) ∙ held.loan.found in
+    let in-file = out_inside s.book held.orderly k held.loan.inside _ is in
+    let all = ap lengths (parts n position begin v newest) ∙ lengths_append (take position v.marks) (m ∷ drop (position + 1) v.marks) in
     record {
       none = held.next _ ∙ cond-false (eqb (marks_of n v.marks) 0) _ _ (ne_eqb _ _ (λ e. omega arith));
       loan = held.loan;
@@ -91,19 +90,19 @@ undo_at s f v n who k position begin held newest =
         in_file = omega (arith, lies, in-file.0, held.sized);
         on_shelf = omega (arith, all, newest.begin, o.covered);
       };
-      some = omega (arith, counted_at (outs s.ledger) v.marks o.counted k held.loan.inside, some, ap (λ y. marks_of y v.marks) held.loan.number);
+      some = omega (arith, counted_at ls v.marks o.counted k held.loan.inside, some, ap (λ y. marks_of y v.marks) held.loan.number);
     }
 
 -- the steps of an undo: what they left, and what each is
-pub record UndoSteps (s t : Job) (f f' : List ℕ) (v w : Stock) (n who k position begin strokes : ℕ) : Type 0 where
+pub record UndoSteps (s t : Book) (f f' : List ℕ) (v w : Stock) (n who k position begin strokes : ℕ) : Type 0 where
   pub tested : UndoAt (state_of s f v) n who k position begin
   pub file : f' ≡ file_less f v position begin
   pub shelves : w ≡ stock_less v position begin
-  pub before : strokes ≡ (get_or (outs s.ledger) k no_loan).strokes
-  pub layout : t.layout ≡ s.layout
-  pub ledger : t.ledger ≡ ledger_counted s.ledger k (strokes - 1) (length w.marks) (length w.bytes)
+  pub before : strokes ≡ (get_or s.outs k no_loan).strokes
+  pub rising : NumbersRise s.outs
+  pub book : t ≡ book_counted s k (strokes - 1) w
 
-module _ {s t : Job} {f f' : List ℕ} {v w : Stock} {n who k position begin strokes : ℕ} (x : UndoSteps s t f f' v w n who k position begin strokes) where
+module _ {s t : Book} {f f' : List ℕ} {v w : Stock} {n who k position begin strokes : ℕ} (x : UndoSteps s t f f' v w n who k position begin strokes) where
   abbrev st : State
   st = state_of s f v
 
@@ -112,9 +111,9 @@ module _ {s t : Job} {f f' : List ℕ} {v w : Stock} {n who k position begin str
 
   count_is : strokes - 1 ≡ marks_of n w.marks
   count_is =
-      let o = ours (book_of s) v (may_undo st n who x.tested.none).ours in
+      let o = ours s v (may_undo st n who x.tested.none).ours in
       let stands = x.tested.loan in
-      let before = x.before ∙ counted_at (outs s.ledger) v.marks o.counted k stands.inside ∙ ap (λ y. marks_of y v.marks) stands.number in
+      let before = x.before ∙ counted_at s.outs v.marks o.counted k stands.inside ∙ ap (λ y. marks_of y v.marks) stands.number in
       let one = one_less v n position begin x.tested.newest n refl in
       let all = ap (λ (y : Stock). marks_of n y.marks) x.shelves in
       omega (arith, before, one, all)
@@ -122,17 +121,16 @@ module _ {s t : Job} {f f' : List ℕ} {v w : Stock} {n who k position begin str
   others : (m : ℕ) → m ≢ n → marks_of m w.marks ≡ marks_of m v.marks
   others m ne = ap (λ (y : Stock). marks_of m y.marks) x.shelves ∙ same_count v n position begin x.tested.newest m ne
 
-  book_is : book_of t ≡ recounted (book_of s) w
+  book_is : t ≡ recounted s w
   book_is =
-      recounts s t k n v w (may_undo st n who x.tested.none).ours x.tested.loan others x.layout
-      (x.ledger ∙ ap (λ y. ledger_counted s.ledger k y (length w.marks) (length w.bytes)) count_is)
+      recounts s t k n v w x.rising (may_undo st n who x.tested.none).ours x.tested.loan others (x.book ∙ ap (λ i. book_counted s k i w) count_is)
 
   pub undo_carried : Carried (undo n who) st (strokes - 1) (state_of t f' w)
   undo_carried = record {
     none = x.tested.none;
     answer = count_is ∙ ap (λ (y : Stock). marks_of n y.marks) stock_is;
     state = λ i. record {
-      book = (book_is ∙ ap (recounted (book_of s)) stock_is) i;
+      book = (book_is ∙ ap (recounted s) stock_is) i;
       file = (x.file ∙ undone_file n position begin v x.tested.newest f) i;
       stock = stock_is i;
     };
@@ -149,11 +147,11 @@ out_somewhere (l ∷ ls) n h = go (eqb n l.number) h (out_somewhere ls n)
     go false e later = let r = later e in (suc r.0, (omega (arith, r.1.0), r.1.1))
 
 -- the marks of a job lie in a file of its length
-pub marks_in_file : (s : Job) (k : Stock) → are_ours (book_of s) k ≡ true → InFile s.layout.table.length k.marks
-marks_in_file s k e i h =
+pub marks_in_file : (b : Book) → Orderly b → (k : Stock) → are_ours b k ≡ true → InFile b.layout.table.length k.marks
+marks_in_file b o k e i h =
     let m = get_or k.marks i no_mark in
-    let sound = sound_at (outs s.ledger) k.marks (ours (book_of s) k e).sound i h in
-    let out = (and_parts (is_out (outs s.ledger) m.loan) (lies_in (the_loan (outs s.ledger) m.loan).area m) (and_parts (leb 1 m.length) _ sound).1).0 in
-    let r = out_somewhere (outs s.ledger) m.loan out in
-    let in-file = out_inside s.layout.table.length s.ledger s.balanced s.inside r.0 r.1.0 _ r.1.1 in
-    omega (arith, sound_end (outs s.ledger) m sound, in-file.0)
+    let sound = sound_at b.outs k.marks (ours b k e).sound i h in
+    let out = (and_parts (is_out b.outs m.loan) (lies_in (the_loan b.outs m.loan).area m) (and_parts (leb 1 m.length) _ sound).1).0 in
+    let r = out_somewhere b.outs m.loan out in
+    let in-file = out_inside b o r.0 r.1.0 _ r.1.1 in
+    omega (arith, sound_end b.outs m sound, in-file.0)

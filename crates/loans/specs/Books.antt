@@ -43,3 +43,10 @@ NumbersGiven l = (k : ℕ) → k < l.out → (slice_index_or l.loans k no_loan).
 -- the numbers of the loans rise, so no two of them have one number
 abbrev pub NumbersRise : List Loan → Type 0
 NumbersRise ls = (j k : ℕ) → j < k → k < length ls → (slice_index_or ls j no_loan).number < (slice_index_or ls k no_loan).number
+
+-- what holds of every job's ledger, over a file of that length
+pub record InOrder (n : ℕ) (l : Ledger) : Type 0 where
+  pub balanced : Balanced l
+  pub inside : Inside n l
+  pub given : NumbersGiven l
+  pub rising : NumbersRise (outs l)

@@ -4,7 +4,7 @@ use Rattle.refusal.specs.declared.Refusal.{Refusal}
 use Rattle.refusal.specs.declared.Refusal.TheVariants.{LoanNotOut}
 use Rattle.loans.specs.Jobs.{Book}
 use Rattle.loans.specs.Stocks.{Stock}
-use Rattle.loans.specs.Strokes.{State}
+use Rattle.loans.specs.Strokes.{State, state_of}
 use Rattle.loans.specs.Rules.{Deed, call_refusal, after}
 use Rattle.loans.specs.Rules.Deed.{lend, paint, undo, keep, cancel}
 
@@ -14,14 +14,10 @@ pub record LaterCall : Type 0 where
   pub stock : Stock
   pub deed : Deed
 
--- a job with the file and the shelves that a call on it is given
-abbrev pub state_with : Book → List ℕ → Stock → State
-state_with b f k = record { book = b; file = f; stock = k }
-
 -- the job after calls, each with its own file and shelves
 abbrev pub later_book : Book → List LaterCall → Book
 later_book b [] = b
-later_book b (x ∷ xs) = later_book (after (state_with b x.file x.stock) x.deed).book xs
+later_book b (x ∷ xs) = later_book (after (state_of b x.file x.stock) x.deed).book xs
 
 -- the call is on the loan of that number
 abbrev pub is_on : ℕ → Deed → Bool
@@ -36,11 +32,11 @@ pub record RefusedAsNotOut (s : State) (d : Deed) : Type 0 where
   pub reason : Refusal
   pub refused : call_refusal s d ≡ Some reason
   pub unchanged : after s d ≡ s
-  pub not_out : length s.file ≡ s.book.table.length → reason ≡ LoanNotOut
+  pub not_out : length s.file ≡ s.book.layout.table.length → reason ≡ LoanNotOut
 
 -- after whatever calls, with whatever file and shelves, every call on the loan of that number is turned down
 abbrev pub HandedIn : ℕ → Book → Type 0
-HandedIn n b = (xs : List LaterCall) (f : List ℕ) (k : Stock) (d : Deed) → is_on n d ≡ true → RefusedAsNotOut (state_with (later_book b xs) f k) d
+HandedIn n b = (xs : List LaterCall) (f : List ℕ) (k : Stock) (d : Deed) → is_on n d ≡ true → RefusedAsNotOut (state_of (later_book b xs) f k) d
 
 -- the same of a keep or cancel that was carried out
 abbrev pub HandedWhere : ℕ → Result ℕ Refusal → Book → Type 0

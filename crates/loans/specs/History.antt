@@ -3,6 +3,7 @@ use Rattle.std.specs.Prelude.{ℕ, ◌+◌, ◌-◌, Bool, cond, ◌&&◌, List,
 use Rattle.std.specs.List.{range_with_len, flat_map}
 use Rattle.refusal.specs.declared.Refusal.{Refusal}
 use Rattle.dds.specs.declared.piece.Piece.{Piece}
+use Rattle.dds.specs.declared.layout.Layout.{Layout}
 use Rattle.dds.specs.declared.table.Table.{Table}
 use Rattle.dds.specs.Places.{area_in}
 use Rattle.loans.specs.declared.ledger.Loan.{Loan}
@@ -153,11 +154,11 @@ shelved most_marks' most_bytes' ss =
     record { marks = map mark_of ss; bytes = flat_map (λ (s : Stroke). s.below) ss; most_marks = most_marks'; most_bytes = most_bytes' }
 
 -- the job that a history tells: the loans out, how many were granted, kept and cancelled, and the counts of these shelves
-abbrev pub told_book : Table → ℕ → List Event → Stock → Book
-told_book t number' h k =
-    recounted (record (fresh_book t (Some number')) {
-      outs = out_in t h;
-      granted = length (lent t h);
+abbrev pub told_book : Layout → ℕ → List Event → Stock → Book
+told_book y number' h k =
+    recounted (record (fresh_book y (Some number')) {
+      outs = out_in y.table h;
+      granted = length (lent y.table h);
       kept = keeps_in h;
       cancelled = cancels_in h;
     }) k
@@ -166,12 +167,12 @@ told_book t number' h k =
 abbrev pub told_stock : Table → ℕ → ℕ → List ℕ → List Event → Stock
 told_stock t most_marks' most_bytes' opening h = shelved most_marks' most_bytes' (undoable (out_in t h) (standing t opening h))
 
--- the job, file and shelves that a history tells of a job opened with a table, a number and a file, on shelves of these capacities;
+-- the job, file and shelves that a history tells of a job opened with a layout, a number and a file, on shelves of these capacities;
 -- each byte of the file is that of the newest stroke standing over it, else the opening's
-abbrev pub told : Table → ℕ → ℕ → ℕ → List ℕ → List Event → State
-told t number' most_marks' most_bytes' opening h =
+abbrev pub told : Layout → ℕ → ℕ → ℕ → List ℕ → List Event → State
+told y number' most_marks' most_bytes' opening h =
     record {
-      book = told_book t number' h (told_stock t most_marks' most_bytes' opening h);
-      file = bytes_under opening (standing t opening h) 0 (length opening);
-      stock = told_stock t most_marks' most_bytes' opening h;
+      book = told_book y number' h (told_stock y.table most_marks' most_bytes' opening h);
+      file = bytes_under opening (standing y.table opening h) 0 (length opening);
+      stock = told_stock y.table most_marks' most_bytes' opening h;
     }

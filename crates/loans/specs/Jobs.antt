@@ -1,16 +1,16 @@
--- What a job means: its layout's table, its number, its loans out, and its counts.
-use Rattle.std.specs.Prelude.{◌≡◌, ℕ, ◌+◌, List, [], length, None, Option}
-use Rattle.dds.specs.declared.table.Table.{Table}
+-- What a job means: its layout, its number, its loans out, and its counts.
+use Rattle.std.specs.Prelude.{◌≡◌, ℕ, ◌+◌, ◌<◌, ◌≤◌, List, [], length, slice_index_or, None, Option}
+use Rattle.dds.specs.declared.layout.Layout.{Layout}
 use Rattle.dds.specs.Sound.{empty_table}
-use Rattle.loans.specs.declared.job.Job.{Job}
+use Rattle.loans.specs.declared.ledger.Ledger.{Ledger}
 use Rattle.loans.specs.declared.ledger.Loan.{Loan}
 use Rattle.loans.specs.declared.ledger.Report.{Report}
-use Rattle.loans.specs.Books.{outs}
+use Rattle.loans.specs.Books.{outs, no_loan, LiesWithin, NumbersRise}
 
--- the table of the pieces, the number of the job, the loans out in the order in which they were granted, how many were granted,
+-- the layout of the file, the number of the job, the loans out in the order in which they were granted, how many were granted,
 -- kept and cancelled, and how many marks and kept bytes the job's shelves hold
 pub record Book : Type 0 where
-  pub table : Table
+  pub layout : Layout
   pub number : Option ℕ
   pub outs : List Loan
   pub granted : ℕ
@@ -19,27 +19,37 @@ pub record Book : Type 0 where
   pub marks : ℕ
   pub bytes : ℕ
 
--- of a ledger's memory only the loans that are out count
-abbrev pub book_of : Job → Book
-book_of j =
+-- what a layout and a ledger tell; of the ledger's memory only the loans that are out count
+abbrev pub book_in : Layout → Ledger → Book
+book_in y l =
     record {
-      table = j.layout.table;
-      number = j.ledger.number;
-      outs = outs j.ledger;
-      granted = j.ledger.granted;
-      kept = j.ledger.kept;
-      cancelled = j.ledger.cancelled;
-      marks = j.ledger.marks;
-      bytes = j.ledger.bytes;
+      layout = y;
+      number = l.number;
+      outs = outs l;
+      granted = l.granted;
+      kept = l.kept;
+      cancelled = l.cancelled;
+      marks = l.marks;
+      bytes = l.bytes;
     }
 
+-- what holds of every job's book: at most 32 loans are out and 65,535 were granted, and granted is kept, cancelled and out together; the
+-- spans of the loans out lie in the file; their numbers rise, and none is above the last that was given
+pub record Orderly (b : Book) : Type 0 where
+  pub few : length b.outs ≤ 32
+  pub numbers : b.granted ≤ 65535
+  pub balance : b.granted ≡ b.kept + b.cancelled + length b.outs
+  pub inside : (k : ℕ) → k < length b.outs → LiesWithin b.layout.table.length (slice_index_or b.outs k no_loan).area
+  pub given : (k : ℕ) → k < length b.outs → (slice_index_or b.outs k no_loan).number ≤ b.granted
+  pub rising : NumbersRise b.outs
+
 -- a job that was just opened, or holds no file
-abbrev pub fresh_book : Table → Option ℕ → Book
-fresh_book t n = record { table = t; number = n; outs = []; granted = 0; kept = 0; cancelled = 0; marks = 0; bytes = 0 }
+abbrev pub fresh_book : Layout → Option ℕ → Book
+fresh_book y n = record { layout = y; number = n; outs = []; granted = 0; kept = 0; cancelled = 0; marks = 0; bytes = 0 }
 
 -- no file, no number, no loans
-abbrev pub empty_book : Book
-empty_book = fresh_book empty_table None
+abbrev pub IsEmpty : Book → Type 0
+IsEmpty b = (b.layout.table ≡ empty_table) × (b ≡ fresh_book b.layout None)
 
 -- how many loans were granted, kept and cancelled, and how many are out
 abbrev pub report_of : Book → Report

@@ -14,10 +14,10 @@ use Rattle.loans.specs.Rules.{answer_to}
 use Rattle.loans.specs.History.{Event, Stroke, lent, out_in, keeps_in, cancels_in, standing, ever_laid, stroke_length, byte_under, undoable, mark_of, told}
 
 -- each call was answered by the rules, by what was out and stood before it
-abbrev pub Answered : Table → ℕ → ℕ → ℕ → List ℕ → List Event → Type 0
-Answered t number most_marks most_bytes opening [] = Unit {0}
-Answered t number most_marks most_bytes opening (e ∷ h) =
-    (e.answer ≡ answer_to (told t number most_marks most_bytes opening h) e.call) × Answered t number most_marks most_bytes opening h
+abbrev pub Answered : Layout → ℕ → ℕ → ℕ → List ℕ → List Event → Type 0
+Answered y number most_marks most_bytes opening [] = Unit {0}
+Answered y number most_marks most_bytes opening (e ∷ h) =
+    (e.answer ≡ answer_to (told y number most_marks most_bytes opening h) e.call) × Answered y number most_marks most_bytes opening h
 
 -- the job's own file and shelves are never taken for others
 abbrev pub TakenAsOwn : Event → Type 0
@@ -90,9 +90,9 @@ pub record Law (y : Layout) (number most_marks most_bytes : ℕ) (opening : List
   pub bytes_room : s.stock.most_bytes ≡ most_bytes
   pub marks_fit : length s.stock.marks ≤ most_marks
   pub bytes_fit : length s.stock.bytes ≤ most_bytes
-  -- the job has the opening's number and the layout's table
+  -- the job has the opening's number and the layout
   pub numbered : s.book.number ≡ Some number
-  pub table : s.book.table ≡ y.table
+  pub layout : s.book.layout ≡ y
   -- its loans are those out, in the order in which they were granted, each with its count of strokes
   pub loans : s.book.outs ≡ map (counted_loan s.stock.marks) (out_in y.table h)
   pub strokes : AllByRecursion (CountsMarks s.stock.marks) s.book.outs
@@ -105,7 +105,7 @@ pub record Law (y : Layout) (number most_marks most_bytes : ℕ) (opening : List
   pub mark_count : s.book.marks ≡ length s.stock.marks
   pub byte_count : s.book.bytes ≡ length s.stock.bytes
   -- each call was answered by the rules, never as if file or shelves were another's
-  pub answers : Answered y.table number most_marks most_bytes opening h
+  pub answers : Answered y number most_marks most_bytes opening h
   pub own : AllByRecursion TakenAsOwn h
   -- the loans ever granted have the numbers 1, 2, 3 and so on
   pub numbers : NumberedFromOne (lent y.table h)

@@ -20,7 +20,7 @@ piece_is_out ls p = list_any (λ (l : Loan). same_piece l.piece p) ls
 -- the first refusal that applies: no such piece, the piece is out, 32 loans are out, 65,535 numbers were given
 abbrev pub loan_refusal : Book → Piece → Option Refusal
 loan_refusal b p =
-    cond (not (exists_in b.table p)) (Some NoSuchPiece)
+    cond (not (exists_in b.layout.table p)) (Some NoSuchPiece)
     (cond (piece_is_out b.outs p) (Some PieceOut)
     (cond (nat_le 32 (length b.outs)) (Some TooManyLoans)
     (cond (nat_le 65535 b.granted) (Some NumbersUsedUp) None)))
@@ -32,4 +32,4 @@ granting n p who a = record { number = n; borrower = who; piece = p; area = a; s
 -- one loan more, with the next number
 abbrev pub with_loan : Book → Piece → ℕ → Book
 with_loan b p who =
-    record b { outs = b.outs ++ granting (b.granted + 1) p who (area_in b.table p) ∷ []; granted = b.granted + 1 }
+    record b { outs = b.outs ++ granting (b.granted + 1) p who (area_in b.layout.table p) ∷ []; granted = b.granted + 1 }

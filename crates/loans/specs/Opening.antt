@@ -6,13 +6,13 @@ use Rattle.dds.specs.declared.layout.Layout.{Layout}
 use Rattle.dds.specs.Layouts.{Opened, OpenedBy}
 use Rattle.loans.specs.declared.docket.Docket.{Docket}
 use Rattle.loans.specs.declared.job.Job.{Job}
-use Rattle.loans.specs.Jobs.{book_of, fresh_book}
+use Rattle.loans.specs.Jobs.{fresh_book}
 
 -- how a job is opened on a file that is read so: the place holds the file's layout and no loans, whatever it held, and the docket carries
 -- the number; a refused open leaves the place as it was
 abbrev pub JobOpened : (Result Layout Refusal → Type 0) → ℕ → Job → Result Docket Refusal → Job → Type 0
 JobOpened reads number s (Ok d) t =
-    (d.0 ≡ number) × reads (Ok t.layout) × (book_of t ≡ fresh_book t.layout.table (Some number))
+    (d.0 ≡ number) × reads (Ok t.layout) × (t ≡ fresh_book t.layout (Some number))
 JobOpened reads number s (Err e) t = reads (Err e) × (t ≡ s)
 
 -- with a family that is handed in

@@ -3,7 +3,6 @@ use Rattle.std.specs.Prelude.{◌≡◌, ℕ, ◌+◌, ◌<◌, ◌≤◌, Bool,
 use Rattle.refusal.specs.declared.Refusal.{Refusal}
 use Rattle.refusal.specs.Meanings.{refusal_text}
 use Rattle.dds.specs.declared.layout.Layout.{Layout}
-use Rattle.dds.specs.declared.table.Table.{Table}
 use Rattle.dds.specs.Layouts.{Opened}
 use Rattle.loans.specs.declared.docket.Docket.{Docket}
 use Rattle.loans.specs.declared.job.Job.{Job}
@@ -11,15 +10,15 @@ use Rattle.loans.specs.declared.mark.Shelves.{Shelves}
 use Rattle.loans.specs.declared.running.RunFault.{RunFault}
 use Rattle.loans.specs.declared.running.RunFault.TheVariants.{Refused, NoRoom}
 use Rattle.loans.specs.Jobs.{fresh_book}
-use Rattle.loans.specs.Stocks.{Stock, are_ours}
+use Rattle.loans.specs.Stocks.{Stock, SameRoom, are_ours}
 use Rattle.loans.specs.Strokes.{State, state_of}
 use Rattle.loans.specs.Rules.{Deed, answers_to, after_all}
 use Rattle.loans.specs.History.{history_of}
 use Rattle.loans.specs.Law.{Law}
 
 -- a job just opened on a file, with shelves
-abbrev pub opened_state : Table → ℕ → List ℕ → Stock → State
-opened_state t number file k = record { book = fresh_book t (Some number); file = file; stock = k }
+abbrev pub opened_state : Layout → ℕ → List ℕ → Stock → State
+opened_state y number file k = record { book = fresh_book y (Some number); file = file; stock = k }
 
 -- neither shelf holds anything
 abbrev pub is_empty : Stock → Bool
@@ -51,8 +50,8 @@ pub record Ordered : Type 0 where
 abbrev pub FileOpened : Ordered → Result Layout Refusal → Type 0
 FileOpened o r = Opened (take 148 o.file) (length o.file) o.row_bytes o.rows r
 
--- a run that was made: on any shelves each call went by its own rule; on two empty shelves the law holds of the file, the job, the
--- shelves, the calls and their answers
+-- a run that was made: on any shelves each call went by its own rule, and they can hold as much as before; on two empty shelves the law
+-- holds of the file, the job, the shelves, the calls and their answers
 pub record RanSo (o : Ordered) (d : Docket) (t : State) (all : List (Result ℕ Refusal)) : Type 0 where
   pub layout : Layout
   pub opened : FileOpened o (Ok layout)
@@ -61,8 +60,9 @@ pub record RanSo (o : Ordered) (d : Docket) (t : State) (all : List (Result ℕ 
   pub given : List (Result ℕ Refusal)
   pub answers : all ≡ o.old ++ given
   pub each : length given ≡ length o.calls
-  pub by_rules : given ≡ answers_to (opened_state layout.table o.number o.file o.shelves) o.calls
-  pub state : t ≡ after_all (opened_state layout.table o.number o.file o.shelves) o.calls
+  pub by_rules : given ≡ answers_to (opened_state layout o.number o.file o.shelves) o.calls
+  pub state : t ≡ after_all (opened_state layout o.number o.file o.shelves) o.calls
+  pub same_room : SameRoom o.shelves t.stock
   pub law : o.shelves.marks ≡ [] → o.shelves.bytes ≡ []
       → Law layout o.number o.shelves.most_marks o.shelves.most_bytes o.file (history_of o.calls given) t
 

@@ -5,21 +5,21 @@ use Rattle.loans.specs.declared.docket.Docket.{Docket}
 use Rattle.loans.specs.declared.job.Job.{Job}
 use Rattle.loans.specs.declared.ledger.Report.{Report}
 use Rattle.loans.specs.declared.mark.Shelves.{Shelves}
-use Rattle.loans.specs.Jobs.{empty_book, report_of}
+use Rattle.loans.specs.Jobs.{IsEmpty, report_of}
 use Rattle.loans.specs.Stocks.{are_ours}
 use Rattle.loans.specs.Strokes.{State, state_of}
 use Rattle.loans.specs.Ending.{scrap_refusal, all_cancelled}
 
 -- the file has the job's length, and the shelves are the job's
 pub record AtHome (s : State) : Type 0 where
-  pub sized : length s.file ≡ s.book.table.length
+  pub sized : length s.file ≡ s.book.layout.table.length
   pub ours : are_ours s.book s.stock ≡ true
 
 -- every loan out is cancelled: the report, file and shelves are those after the cancels, and the job is emptied
 pub record ScrappedSo (d : Docket) (s : State) (report : Report) (t : State) : Type 0 where
   pub none : scrap_refusal s d.0 ≡ None
   pub answer : report ≡ report_of (all_cancelled s.book.outs s).book
-  pub job : t.book ≡ empty_book
+  pub job : IsEmpty t.book
   pub file : t.file ≡ (all_cancelled s.book.outs s).file
   pub shelves : t.stock ≡ (all_cancelled s.book.outs s).stock
 

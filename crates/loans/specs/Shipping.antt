@@ -6,7 +6,7 @@ use Rattle.loans.specs.declared.docket.Docket.{Docket}
 use Rattle.loans.specs.declared.job.Job.{Job}
 use Rattle.loans.specs.declared.ledger.Report.{Report}
 use Rattle.loans.specs.declared.shipping.Unspent.{Unspent}
-use Rattle.loans.specs.Jobs.{Book, book_of, empty_book, report_of}
+use Rattle.loans.specs.Jobs.{Book, IsEmpty, report_of}
 
 -- the job has that number; an empty job has none
 abbrev pub is_job_number : Option ℕ → ℕ → Bool
@@ -22,6 +22,6 @@ ship_refusal b n =
 -- the job is emptied and its report answered; a refusal hands the docket back
 abbrev pub Shipped : Docket → Job → Result Report Unspent → Job → Type 0
 Shipped d s (Ok report) t =
-    (ship_refusal (book_of s) d.0 ≡ None) × (report ≡ report_of (book_of s)) × (book_of t ≡ empty_book)
+    (ship_refusal s d.0 ≡ None) × (report ≡ report_of s) × IsEmpty t
 Shipped d s (Err u) t =
-    (ship_refusal (book_of s) d.0 ≡ Some u.refusal) × (u.docket.0 ≡ d.0) × (t ≡ s)
+    (ship_refusal s d.0 ≡ Some u.refusal) × (u.docket.0 ≡ d.0) × (t ≡ s)

@@ -1,5 +1,5 @@
 -- What stands on a job's shelves, and when the shelves are the job's.
-use Rattle.std.specs.Prelude.{◌≡◌, ℕ, suc, ◌+◌, ◌≤◌, Bool, true, cond, ◌&&◌, List, [], ◌∷◌, length, ◌==◌, nat_le}
+use Rattle.std.specs.Prelude.{◌≡◌, ℕ, suc, ◌+◌, ◌≤◌, max, Bool, true, cond, ◌&&◌, List, [], ◌∷◌, length, ◌==◌, nat_le}
 use Rattle.std.specs.List.{list_any, list_all}
 use Rattle.shelf.specs.Held.{Held}
 use Rattle.dds.specs.declared.area.Area.{Area}
@@ -32,6 +32,20 @@ pub record Fits (k : Stock) : Type 0 where
   pub bytes : length k.bytes ≤ k.most_bytes
   pub marks_capped : k.most_marks ≤ 1073741824
   pub bytes_capped : k.most_bytes ≤ 1073741824
+
+-- two shelves that hold nothing, and can hold so many marks and bytes
+abbrev pub empty_stock : ℕ → ℕ → Stock
+empty_stock most_marks' most_bytes' =
+    record { marks = []; bytes = []; most_marks = most_marks'; most_bytes = most_bytes' }
+
+-- the shelves can hold as much as before
+pub record SameRoom (old new : Stock) : Type 0 where
+  pub marks : new.most_marks ≡ old.most_marks
+  pub bytes : new.most_bytes ≡ old.most_bytes
+
+-- the largest number that a call answers: 65,535, or as many marks as the shelf can hold where that is more
+abbrev pub answer_limit : Stock → ℕ
+answer_limit k = max 65535 k.most_marks
 
 -- the loan has that number
 abbrev pub is_number : ℕ → Loan → Bool

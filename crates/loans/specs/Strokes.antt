@@ -6,12 +6,10 @@ use Rattle.refusal.specs.declared.Refusal.{Refusal}
 use Rattle.refusal.specs.declared.Refusal.TheVariants.{OtherLength, LoanNotOut, OtherBorrower, ForeignShelves, OutsideRow, NoSpace, NothingToUndo}
 use Rattle.dds.specs.declared.area.Area.{Area}
 use Rattle.loans.specs.declared.call.Painting as Call
-use Rattle.loans.specs.declared.job.Job.{Job}
 use Rattle.loans.specs.declared.ledger.Loan.{Loan}
 use Rattle.loans.specs.declared.mark.Mark.{Mark}
-use Rattle.loans.specs.declared.mark.Shelves.{Shelves}
 use Rattle.loans.specs.Books.{no_loan, loan_with}
-use Rattle.loans.specs.Jobs.{Book, book_of}
+use Rattle.loans.specs.Jobs.{Book, Orderly}
 use Rattle.loans.specs.declared.painting.Spot.{Spot}
 use Rattle.loans.specs.Finding.{StandsAt}
 use Rattle.loans.specs.Stocks.{Stock, is_out, the_loan, of_loan, marks_of, are_ours}
@@ -22,13 +20,13 @@ pub record State : Type 0 where
   pub file : List ℕ
   pub stock : Stock
 
--- what job, file and shelves of the code mean
-abbrev pub state_of : Job → List ℕ → Shelves → State
-state_of j f v = record { book = book_of j; file = f; stock = v }
+-- the state of a job, its file and its shelves
+abbrev pub state_of : Book → List ℕ → Stock → State
+state_of b f k = record { book = b; file = f; stock = k }
 
 -- the file has another length than the job's
 abbrev pub is_other_length : State → Bool
-is_other_length s = not (length s.file == s.book.table.length)
+is_other_length s = not (length s.file == s.book.layout.table.length)
 
 -- what a borrower's call on a loan is refused with first: another length, the loan not out, another borrower, foreign shelves; where
 -- none of these applies, with what comes after them
@@ -39,12 +37,13 @@ held_else s n who rest =
     (cond (not ((the_loan s.book.outs n).borrower == who)) (Some OtherBorrower)
     (cond (not (are_ours s.book s.stock)) (Some ForeignShelves) rest)))
 
--- the position of a loan that the borrower holds
+-- the position of a loan that the borrower holds, of a job's book
 pub record HeldAt (s : State) (n who k : ℕ) : Type 0 where
   pub next : (rest : Option Refusal) → held_else s n who rest ≡ rest
   pub loan : StandsAt s.book.outs n k
-  pub sized : length s.file ≡ s.book.table.length
+  pub sized : length s.file ≡ s.book.layout.table.length
   pub ours : are_ours s.book s.stock ≡ true
+  pub orderly : Orderly s.book
 
 -- the position of the loan, or the first of the four refusals that applies, whatever comes after them
 abbrev pub Held : State → ℕ → ℕ → Result ℕ Refusal → Type 0
@@ -68,10 +67,14 @@ pub record Painting : Type 0 where
   pub first : ℕ
   pub laid : List ℕ
 
+-- a paint on a loan, by a borrower, in a row from a byte of it on
+abbrev pub painting_on : ℕ → ℕ → ℕ → ℕ → List ℕ → Painting
+painting_on n who row' first' laid' =
+    record { loan = n; borrower = who; row = row'; first = first'; laid = laid' }
+
 -- what a paint of the code names
 abbrev pub painting_of : Call.Painting → Painting
-painting_of p =
-    record { loan = p.loan; borrower = p.borrower; row = p.row; first = p.first; laid = p.bytes.now }
+painting_of p = painting_on p.loan p.borrower p.row p.first p.bytes.now
 
 -- no bytes, no such row, or past the row's end
 abbrev pub is_outside_row : Area → Painting → Bool

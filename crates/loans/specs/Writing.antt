@@ -1,5 +1,5 @@
--- What a job writes down after a call that was carried out, in the ledger's own memory.
-use Rattle.std.specs.Prelude.{ℕ, ◌+◌, ◌-◌, slice_index_or, slice_set}
+-- What a job writes down after a call that was carried out.
+use Rattle.std.specs.Prelude.{ℕ, ◌+◌, ◌-◌, ◌++◌, length, take, drop, slice_index_or, slice_set}
 use Rattle.dds.specs.declared.area.Area.{Area}
 use Rattle.dds.specs.declared.piece.Piece.{Piece}
 use Rattle.shelf.specs.Runs.{slid_down}
@@ -7,6 +7,8 @@ use Rattle.loans.specs.declared.ending.Ending.{Ending}
 use Rattle.loans.specs.declared.ending.Ending.TheVariants.{Kept, Cancelled}
 use Rattle.loans.specs.declared.ledger.Ledger.{Ledger}
 use Rattle.loans.specs.Books.{no_loan, loan_with}
+use Rattle.loans.specs.Jobs.{Book}
+use Rattle.loans.specs.Stocks.{Stock}
 use Rattle.loans.specs.Lending.{granting}
 
 -- one loan more, behind those out
@@ -39,4 +41,24 @@ ledger_ended l k kept' cancelled' marks' bytes' =
       cancelled = l.cancelled + cancelled';
       marks = marks';
       bytes = bytes';
+    }
+
+-- of a job's book: the loan at a position has so many strokes, and the job counts what stands on the shelves
+abbrev pub book_counted : Book → ℕ → ℕ → Stock → Book
+book_counted b k n stock =
+    record b {
+      outs = slice_set b.outs k (loan_with (slice_index_or b.outs k no_loan) n);
+      marks = length stock.marks;
+      bytes = length stock.bytes;
+    }
+
+-- the loan at a position is out no more, and the job counts what stays on the shelves
+abbrev pub book_ended : Book → ℕ → Ending → Stock → Book
+book_ended b k ending stock =
+    record b {
+      outs = take k b.outs ++ drop (k + 1) b.outs;
+      kept = b.kept + kept_by ending;
+      cancelled = b.cancelled + cancelled_by ending;
+      marks = length stock.marks;
+      bytes = length stock.bytes;
     }

@@ -1,7 +1,7 @@
 // Ending a loan: keeping or cancelling it.
 ghost use Rattle.std.specs.Prelude.{◌≡◌, ◌<◌, length};
-ghost use Rattle.loans.specs.Jobs.{book_of};
-ghost use Rattle.loans.specs.Writing.{kept_by, cancelled_by, ledger_ended};
+ghost use Rattle.loans.specs.Books.{Balanced};
+ghost use Rattle.loans.specs.Writing.{kept_by, cancelled_by, ledger_ended, book_ended};
 ghost use Rattle.loans.specs.Stocks.{lengths, OursWhere};
 ghost use Rattle.loans.specs.Ending.{restored, InFile};
 ghost use Rattle.loans.specs.Rules.Deed.{keep, cancel};
@@ -9,6 +9,7 @@ ghost use Rattle.loans.specs.Calls.{Called, CalledOnAny};
 ghost use Rattle.loans.specs.Handed.{HandedWhere};
 
 use crate::job::Job;
+use crate::ledger::Ledger;
 use crate::mark::{Mark, Shelves};
 use crate::painting::lay;
 use refusal::Refusal;
@@ -36,25 +37,37 @@ fn restore(file: &mut [u8], marks: &[Mark], covered: &[u8], loan: u32)
     }
 }
 
-impl Job {
-    // Writes down how the loan at a position ended, and the counts of the shelves.
-    fn end_loan(&mut self, position: usize, ending: Ending, shelves: &Shelves<'_>)
-        requires { position < length (book_of self.old).outs }
-        ensures layout { self.new.layout ≡ self.old.layout }
-        ensures ledger { self.new.ledger ≡ ledger_ended self.old.ledger position
-            (kept_by ending) (cancelled_by ending)
-            (length shelves.now.marks) (length shelves.now.bytes) }
+impl Ledger {
+    // Takes the loan at a position out of those that are out, counts how it ended, and writes down so many marks and bytes.
+    fn end(&mut self, position: usize, ending: Ending, marks: usize, bytes: usize)
+        requires balanced { Balanced self.old }
+        requires out { position < self.old.out }
+        ensures { self.new ≡ ledger_ended self.old position
+            (kept_by ending) (cancelled_by ending) marks bytes }
     {
-        let ledger = &mut self.ledger;
         match ending {
-            Ending::Kept => ledger.kept += 1,
-            Ending::Cancelled => ledger.cancelled += 1,
+            Ending::Kept => self.kept += 1,
+            Ending::Cancelled => self.cancelled += 1,
         }
-        let out = ledger.out as usize;
-        ledger.loans.copy_within(position + 1..out, position);
-        ledger.out -= 1;
-        ledger.marks = shelves.marks().count();
-        ledger.bytes = shelves.bytes().count();
+        let out = self.out as usize;
+        self.loans.copy_within(position + 1..out, position);
+        self.out -= 1;
+        self.marks = marks;
+        self.bytes = bytes;
+    }
+}
+
+impl Job {
+    // Writes down how the loan at a position ended, and the counts of the shelves. Answers how many loans are still out.
+    fn end_loan(&mut self, position: usize, ending: Ending, shelves: &Shelves<'_>) -> u32
+        requires { position < length self.old.outs }
+        ensures book { self.new ≡ book_ended self.old position ending shelves.now }
+        ensures left { result ≡ length self.new.outs }
+    {
+        let marks = shelves.marks().count();
+        let bytes = shelves.bytes().count();
+        self.ledger.end(position, ending, marks, bytes);
+        self.ledger.out
     }
 
     // Ends a loan for good; see `keep`.
@@ -64,16 +77,16 @@ impl Job {
         loan: u32,
         known: bool,
     ) -> Result<u32, Refusal>
-        requires { OursWhere known (book_of self.old) shelves.old }
-        ensures { CalledOnAny (keep loan) self.old shelves.old result self.new shelves.new }
+        requires { OursWhere known self.old shelves.old }
+        ensures rule { CalledOnAny (keep loan) self.old shelves.old result self.new shelves.new }
+        ensures handed { HandedWhere loan result self.new }
     {
         let position = self.position_of(loan).ok_or(Refusal::LoanNotOut)?;
         if !self.owns_or_knows(shelves, known) {
             return Err(Refusal::ForeignShelves);
         }
         shelves.drop_loan(loan);
-        self.end_loan(position, Ending::Kept, shelves);
-        Ok(self.ledger.out)
+        Ok(self.end_loan(position, Ending::Kept, shelves))
     }
 
     // Takes back all strokes of a loan and ends it; see `cancel`.
@@ -84,9 +97,10 @@ impl Job {
         loan: u32,
         known: bool,
     ) -> Result<u32, Refusal>
-        requires { OursWhere known (book_of self.old) shelves.old }
-        ensures { Called (cancel loan) self.old file.old shelves.old
+        requires { OursWhere known self.old shelves.old }
+        ensures rule { Called (cancel loan) self.old file.old shelves.old
             result self.new file.new shelves.new }
+        ensures handed { HandedWhere loan result self.new }
     {
         if !self.has_length(file) {
             return Err(Refusal::OtherLength);
@@ -102,15 +116,14 @@ impl Job {
             loan,
         );
         shelves.drop_loan(loan);
-        self.end_loan(position, Ending::Cancelled, shelves);
-        Ok(self.ledger.out)
+        Ok(self.end_loan(position, Ending::Cancelled, shelves))
     }
 
     /// Ends a loan: its strokes stand for good, and their marks and bytes leave the shelves. Answers how many loans are still out.
     /// Refuses with LoanNotOut, then with ForeignShelves.
     pub fn keep(&mut self, shelves: &mut Shelves<'_>, loan: u32) -> Result<u32, Refusal>
         ensures rule { CalledOnAny (keep loan) self.old shelves.old result self.new shelves.new }
-        ensures handed { HandedWhere loan result (book_of self.new) }
+        ensures handed { HandedWhere loan result self.new }
     {
         self.keep_on(shelves, loan, false)
     }
@@ -125,7 +138,7 @@ impl Job {
     ) -> Result<u32, Refusal>
         ensures rule { Called (cancel loan) self.old file.old shelves.old
             result self.new file.new shelves.new }
-        ensures handed { HandedWhere loan result (book_of self.new) }
+        ensures handed { HandedWhere loan result self.new }
     {
         self.cancel_on(file, shelves, loan, false)
     }

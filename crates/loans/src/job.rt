@@ -1,8 +1,7 @@
 // The job: what is remembered of one opened file.
-ghost use Rattle.loans.specs.Books.{Balanced, Inside, NumbersGiven, NumbersRise, outs};
-
 use crate::ledger::Ledger;
 use dds::Layout;
+use std::marker::Model;
 
 /// What is remembered of one opened file: where its pieces stand, its loans, its counts. Not copyable: a copy would keep a loan out
 /// that was handed in.
@@ -10,8 +9,15 @@ use dds::Layout;
 pub struct Job {
     pub(crate) layout: Layout,
     pub(crate) ledger: Ledger,
-    ghost balanced: { Balanced ledger },
-    ghost inside: { Inside layout.table.length ledger },
-    ghost given: { NumbersGiven ledger },
-    ghost rising: { NumbersRise (outs ledger) },
+}
+
+impl Model for Job {
+    ghost use Rattle.loans.specs.Books.{InOrder};
+    ghost use Rattle.loans.specs.Jobs.{Book, book_in};
+
+    ghost Value = { Book };
+
+    ghost view = { λ job. book_in job.layout job.ledger };
+
+    ghost invariant = { λ job. InOrder job.layout.table.length job.ledger };
 }

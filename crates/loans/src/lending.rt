@@ -1,10 +1,10 @@
 // Lending a piece.
 ghost use Rattle.std.specs.Prelude.{◌≡◌, ◌<◌};
+ghost use Rattle.loans.specs.Jobs.{Orderly};
 ghost use Rattle.loans.specs.Lending.{piece_is_out};
 ghost use Rattle.loans.specs.Writing.{ledger_with};
 ghost use Rattle.loans.specs.Rules.Deed.{lend};
 ghost use Rattle.loans.specs.Calls.{CalledAlone};
-ghost use Rattle.loans.specs.Jobs.{book_of};
 
 use crate::job::Job;
 use crate::ledger::{Ledger, Loan};
@@ -45,7 +45,8 @@ impl Ledger {
 impl Job {
     // The loans out, in the order in which they were granted.
     pub(crate) fn outs(&self) -> &[Loan]
-        ensures { result.now ≡ (book_of self.now).outs }
+        ensures value { result.now ≡ self.now.outs }
+        ensures orderly { Orderly self.now }
     {
         &self.ledger.loans[0..self.ledger.out as usize]
     }

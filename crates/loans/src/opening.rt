@@ -1,7 +1,7 @@
 // Opening a job, and asking where its pieces stand.
-ghost use Rattle.std.specs.Prelude.{◌≡◌, Option};
+ghost use Rattle.std.specs.Prelude.{◌≡◌, Option, OnOk, length};
 ghost use Rattle.dds.specs.Places.{WhereIs, where_in, WhoseIs, Shown};
-ghost use Rattle.loans.specs.Jobs.{book_of, fresh_book, empty_book, report_of, IsBalanced};
+ghost use Rattle.loans.specs.Jobs.{fresh_book, IsEmpty, report_of, IsBalanced};
 ghost use Rattle.loans.specs.Opening.{OpenedWith, OpenedWithCodes};
 
 use crate::docket::Docket;
@@ -14,8 +14,7 @@ use refusal::Refusal;
 impl Job {
     // A job with no loans over a layout.
     pub(crate) fn fresh(layout: Layout, number: Option<u32>) -> Job
-        ensures layout { result.layout ≡ layout }
-        ensures book { book_of result ≡ fresh_book layout.table number }
+        ensures { result ≡ fresh_book layout number }
     {
         Job {
             layout,
@@ -34,7 +33,7 @@ impl Job {
 
     /// A job that holds no file.
     pub fn empty() -> Job
-        ensures { book_of result ≡ empty_book }
+        ensures { IsEmpty result }
     {
         Job::fresh(Layout::empty(), None)
     }
@@ -47,8 +46,9 @@ impl Job {
         number: u32,
         family: &F,
     ) -> Result<Docket, Refusal>
-        ensures { OpenedWith file.now number (F.row_bytes family.now) (F.rows family.now)
+        ensures opened { OpenedWith file.now number (F.row_bytes family.now) (F.rows family.now)
             self.old result self.new }
+        ensures length { OnOk result (length file.now ≡ self.new.layout.table.length) }
     {
         let layout = Layout::read_with(FileHead::of(file), family)?;
         *self = Job::fresh(layout, Some(number));
@@ -57,13 +57,16 @@ impl Job {
 
     /// Opens a file by the format that its header names, with a table of the codes other than DX10, whatever the job held. Refuses as
     /// Layout::read does, and then changes nothing.
+    #[tactic(auto, using(crate::proofs::Opened::length_by_codes))]
     pub fn open<T: CodeTable>(
         &mut self,
         file: &[u8],
         number: u32,
         codes: &T,
     ) -> Result<Docket, Refusal>
-        ensures { OpenedWithCodes file.now number (T.name_at codes.now) self.old result self.new }
+        ensures opened { OpenedWithCodes file.now number (T.name_at codes.now)
+            self.old result self.new }
+        ensures length { OnOk result (length file.now ≡ self.new.layout.table.length) }
     {
         let layout = Layout::read(FileHead::of(file), codes)?;
         *self = Job::fresh(layout, Some(number));
@@ -73,7 +76,7 @@ impl Job {
     /// Where a piece stands. Refuses with NoSuchPiece.
     pub fn where_is(&self, piece: Piece) -> Result<Area, Refusal>
         ensures value { WhereIs self.now.layout piece result }
-        ensures exact { result ≡ where_in (book_of self.now).table piece }
+        ensures exact { result ≡ where_in self.now.layout.table piece }
     {
         self.layout.place_of(piece)
     }
@@ -94,7 +97,7 @@ impl Job {
 
     /// The job's counts of its loans.
     pub fn report(&self) -> Report
-        ensures value { result ≡ report_of (book_of self.now) }
+        ensures value { result ≡ report_of self.now }
         ensures balance { IsBalanced result }
     {
         let ledger = &self.ledger;

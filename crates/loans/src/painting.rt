@@ -1,11 +1,11 @@
 // Laying a stroke.
 ghost use Rattle.std.specs.Prelude.{◌≡◌, ◌+◌, ◌*◌, ◌<◌, ◌≤◌, false, length, ◌==◌, slice_index_or};
 ghost use Rattle.std.proofs.Math.Seq.{paste};
-ghost use Rattle.loans.specs.Books.{no_loan};
+ghost use Rattle.loans.specs.Books.{no_loan, NumbersRise};
 ghost use Rattle.loans.specs.Rules.Deed.{paint};
 ghost use Rattle.loans.specs.Calls.{Called};
-ghost use Rattle.loans.specs.Writing.{ledger_counted};
-ghost use Rattle.loans.specs.Jobs.{book_of};
+ghost use Rattle.loans.specs.Writing.{book_counted};
+ghost use Rattle.loans.specs.Jobs.{Orderly};
 ghost use Rattle.loans.specs.Stocks.{Fits, OursWhere};
 ghost use Rattle.loans.specs.Finding.{Found};
 ghost use Rattle.loans.specs.Strokes.{state_of, Held, stock_with, painting_of, is_outside_row, lacks_space, PaintTested};
@@ -68,24 +68,25 @@ pub(crate) fn lay(file: &mut [u8], place: usize, bytes: &[u8])
 impl Job {
     // The file has the job's length.
     pub(crate) fn has_length(&self, file: &[u8]) -> bool
-        ensures { result ≡ (length file.now == (book_of self.now).table.length) }
+        ensures { result ≡ (length file.now == self.now.layout.table.length) }
     {
         file.len() as u64 == self.layout.length()
     }
 
     // The position of the loan of a number among the loans out.
     pub(crate) fn position_of(&self, number: u32) -> Option<usize>
-        ensures { Found (book_of self.now).outs number result }
+        ensures found { Found self.now.outs number result }
+        ensures orderly { Orderly self.now }
     {
         position_of(self.outs(), number)
     }
 
     // The loan at a position among the loans out.
     pub(crate) fn loan_at(&self, position: usize) -> Loan
-        requires { position < length (book_of self.now).outs }
-        ensures value { result ≡ slice_index_or (book_of self.now).outs position no_loan }
+        requires { position < length self.now.outs }
+        ensures value { result ≡ slice_index_or self.now.outs position no_loan }
         ensures inside { result.area.place + result.area.length
-            ≤ (book_of self.now).table.length }
+            ≤ self.now.layout.table.length }
         ensures rows { result.area.length ≡ result.area.row_bytes * result.area.rows }
     {
         self.outs()[position]
@@ -101,7 +102,7 @@ impl Job {
         borrower: u32,
         known: bool,
     ) -> Result<usize, Refusal>
-        requires { OursWhere known (book_of self.now) shelves.now }
+        requires { OursWhere known self.now shelves.now }
         ensures { Held (state_of self.now file.now shelves.now) loan borrower result }
     {
         if !self.has_length(file) {
@@ -125,7 +126,7 @@ impl Job {
         painting: Painting<'_>,
         known: bool,
     ) -> Result<Spot, Refusal>
-        requires { OursWhere known (book_of self.now) shelves.now }
+        requires { OursWhere known self.now shelves.now }
         ensures { PaintTested (state_of self.now file.now shelves.now)
             (painting_of painting.entry) result }
     {
@@ -147,10 +148,9 @@ impl Job {
 
     // Writes down so many strokes of the loan at a position, and the counts of the shelves.
     pub(crate) fn count_strokes(&mut self, position: usize, strokes: u32, shelves: &Shelves<'_>)
-        requires { position < length (book_of self.old).outs }
-        ensures layout { self.new.layout ≡ self.old.layout }
-        ensures ledger { self.new.ledger ≡ ledger_counted self.old.ledger position strokes
-            (length shelves.now.marks) (length shelves.now.bytes) }
+        requires { position < length self.old.outs }
+        ensures book { self.new ≡ book_counted self.old position strokes shelves.now }
+        ensures rising { NumbersRise self.old.outs }
     {
         let ledger = &mut self.ledger;
         ledger.loans[position].strokes = strokes;
@@ -166,7 +166,7 @@ impl Job {
         painting: Painting<'_>,
         known: bool,
     ) -> Result<u32, Refusal>
-        requires { OursWhere known (book_of self.old) shelves.old }
+        requires { OursWhere known self.old shelves.old }
         ensures { Called (paint (painting_of painting.entry)) self.old file.old shelves.old
             result self.new file.new shelves.new }
     {

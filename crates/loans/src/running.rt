@@ -1,8 +1,7 @@
 // Running a list of calls on a newly opened job.
-ghost use Rattle.std.specs.Prelude.{◌≡◌, Some, ◌+◌, ◌≤◌, map, length, vec_len, vec_capacity};
+ghost use Rattle.std.specs.Prelude.{◌≡◌, Some, ◌+◌, ◌≤◌, IfOk, map, length, vec_len, vec_capacity};
 ghost use Rattle.loans.specs.declared.running.RunFault.TheVariants.{Refused};
-ghost use Rattle.loans.specs.Jobs.{book_of};
-ghost use Rattle.loans.specs.Stocks.{OursWhere};
+ghost use Rattle.loans.specs.Stocks.{SameRoom, answer_limit, OursWhere};
 ghost use Rattle.loans.specs.Strokes.{state_of};
 ghost use Rattle.loans.specs.Rules.{deed_of};
 ghost use Rattle.loans.specs.Calls.{Called};
@@ -59,9 +58,10 @@ impl Job {
         call: Call<'_>,
         known: bool,
     ) -> Result<u32, Refusal>
-        requires { OursWhere known (book_of self.old) shelves.old }
-        ensures { Called (deed_of call.entry) self.old file.old shelves.old
+        requires { OursWhere known self.old shelves.old }
+        ensures rule { Called (deed_of call.entry) self.old file.old shelves.old
             result self.new file.new shelves.new }
+        ensures handed { HandedBy (deed_of call.entry) result self.new }
     {
         match call {
             Call::Loan { piece, borrower } => self.loan(piece, borrower),
@@ -72,7 +72,8 @@ impl Job {
         }
     }
 
-    /// Makes one call that is given as a value. Refuses as the call's own method does.
+    /// Makes one call that is given as a value. Refuses as the call's own method does. What the shelves can hold stays; the number
+    /// that it answers is at most 65,535, or what the shelf of marks can hold where that is more.
     pub fn carry_out(
         &mut self,
         file: &mut [u8],
@@ -81,9 +82,15 @@ impl Job {
     ) -> Result<u32, Refusal>
         ensures rule { Called (deed_of call.entry) self.old file.old shelves.old
             result self.new file.new shelves.new }
-        ensures handed { HandedBy (deed_of call.entry) result (book_of self.new) }
+        ensures handed { HandedBy (deed_of call.entry) result self.new }
+        ensures room { SameRoom shelves.old shelves.new }
+        ensures limit { IfOk result (λ number. number ≤ answer_limit shelves.old) }
     {
-        self.call(file, shelves, call, false)
+        let answer = self.call(file, shelves, call, false);
+        // what holds of every job and of every shelf is told where it is looked into
+        let _job = &self.ledger;
+        let _marks = shelves.marks();
+        answer
     }
 
     // Makes the calls in order, and puts their answers behind those in the Vec, which has room for them.

@@ -1,6 +1,6 @@
 // Scrapping a job.
 ghost use Rattle.std.specs.Prelude.{◌≡◌, IfOk};
-ghost use Rattle.loans.specs.Jobs.{book_of, IsBalanced};
+ghost use Rattle.loans.specs.Jobs.{IsBalanced};
 ghost use Rattle.loans.specs.Strokes.{state_of};
 ghost use Rattle.loans.specs.Ending.{all_cancelled};
 ghost use Rattle.loans.specs.Scrapping.{AtHome, Scrapped};
@@ -16,12 +16,12 @@ impl Job {
     fn cancel_all(&mut self, file: &mut [u8], shelves: &mut Shelves<'_>)
         requires { AtHome (state_of self.old file.old shelves.old) }
         ensures { state_of self.new file.new shelves.new
-            ≡ all_cancelled (book_of self.old).outs (state_of self.old file.old shelves.old) }
+            ≡ all_cancelled self.old.outs (state_of self.old file.old shelves.old) }
     {
-        while self.ledger.out > 0 {
-            let first = self.loan_at(0).number;
+        while let [first, ..] = self.outs() {
+            let number = first.number;
             // it does not refuse: file and shelves are the job's
-            let _ = self.cancel_on(file, shelves, first, true);
+            let _ = self.cancel_on(file, shelves, number, true);
         }
     }
 }

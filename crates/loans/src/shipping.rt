@@ -1,6 +1,6 @@
 // Shipping a job.
 ghost use Rattle.std.specs.Prelude.{◌≡◌, IfErr, IfOk};
-ghost use Rattle.loans.specs.Jobs.{book_of, IsBalanced};
+ghost use Rattle.loans.specs.Jobs.{IsBalanced};
 ghost use Rattle.loans.specs.Shipping.{is_job_number, Shipped};
 
 use crate::docket::Docket;
@@ -20,7 +20,7 @@ pub struct Unspent {
 impl Job {
     // The job has that number; an empty job has none.
     pub(crate) fn has_number(&self, number: u64) -> bool
-        ensures { result ≡ is_job_number (book_of self.now).number number }
+        ensures { result ≡ is_job_number self.now.number number }
     {
         self.ledger
             .number
@@ -41,7 +41,7 @@ pub fn ship(mut docket: Docket, job: &mut Job) -> Result<Report, Unspent>
             refusal: Refusal::OtherDocket,
         });
     }
-    if job.ledger.out > 0 {
+    if !job.outs().is_empty() {
         return Err(Unspent {
             docket,
             refusal: Refusal::LoansOut,

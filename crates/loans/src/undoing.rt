@@ -1,6 +1,5 @@
 // Taking a stroke back.
 ghost use Rattle.std.specs.Prelude.{◌≡◌, ◌≤◌, length};
-ghost use Rattle.loans.specs.Jobs.{book_of};
 ghost use Rattle.loans.specs.Stocks.{lengths, OursWhere};
 ghost use Rattle.loans.specs.Strokes.{state_of};
 ghost use Rattle.loans.specs.Taking.{FoundNewest, file_less, stock_less, Whole, UndoTested};
@@ -76,7 +75,7 @@ impl Job {
         borrower: u32,
         known: bool,
     ) -> Result<Last, Refusal>
-        requires { OursWhere known (book_of self.now) shelves.now }
+        requires { OursWhere known self.now shelves.now }
         ensures { UndoTested (state_of self.now file.now shelves.now) loan borrower result }
     {
         let position = self.held(file, shelves, loan, borrower, known)?;
@@ -94,7 +93,7 @@ impl Job {
         borrower: u32,
         known: bool,
     ) -> Result<u32, Refusal>
-        requires { OursWhere known (book_of self.old) shelves.old }
+        requires { OursWhere known self.old shelves.old }
         ensures { Called (undo loan borrower) self.old file.old shelves.old
             result self.new file.new shelves.new }
     {

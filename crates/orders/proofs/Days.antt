@@ -1,63 +1,36 @@
 -- A day on a texture that was opened.
-use Rattle.std.proofs.Common.{◌≡◌, ℕ, min, List, ◌++◌, length, take, Some, None, Option, Ok, Err, Result, refl, sym, ap, ◌∙◌, subst}
-use Rattle.refusal.specs.declared.Refusal.{Refusal}
-use Rattle.formats.specs.declared.kinds.FormatName.{FormatName}
-use Rattle.formats.specs.Codes.{name_for, plain_rows}
-use Rattle.dds.specs.declared.header.Header.{Header}
+use Rattle.std.proofs.Common.{◌≡◌, ℕ, min, List, ◌++◌, length, Some, Ok, refl, sym, ap, ◌∙◌, subst}
 use Rattle.dds.specs.declared.layout.Layout.{Layout}
-use Rattle.dds.specs.Headers.{header_read, header_name}
-use Rattle.dds.specs.Layouts.{OpenedIn, OpenedBy}
-use Rattle.dds.specs.Layouts as layouts
 use Rattle.shelf.specs.declared.Shelf.{Shelf}
 use Rattle.shelf.specs.Calls.{New}
 use Rattle.loans.specs.declared.mark.Mark.{Mark}
-use Rattle.shelf.specs.Model.{contents, capacity_of}
-use Rattle.loans.specs.declared.job.Job.{Job}
-use Rattle.loans.specs.declared.mark.Shelves.{Shelves}
-use Rattle.loans.specs.Jobs.{book_of, fresh_book}
+use Rattle.loans.specs.Jobs.{Book, fresh_book}
+use Rattle.loans.specs.Stocks.{Stock, stock_on, empty_stock}
 use Rattle.loans.specs.Strokes.{State, state_of}
 use Rattle.loans.specs.Rules.{Deed, answers_to, after_all}
-use Rattle.loans.specs.History.{history_of, told}
+use Rattle.loans.specs.History.{history_of}
 use Rattle.loans.specs.Law.{Law}
-use Rattle.loans.specs.Runs.{opened_state}
 use Rattle.loans.specs.Scrapping.{AtHome}
 use Rattle.loans.proofs.Calls.{answers_to_length}
-use Rattle.loans.proofs.Runs.{law_run, told_again, ours_run}
+use Rattle.loans.proofs.Runs.{law_run}
+use Rattle.loans.proofs.Opened.{is_empty_stock, opened_is, home_run}
 use Rattle.orders.specs.declared.day.Ending.{Ending}
 use Rattle.orders.specs.declared.day.Ending.TheVariants.{Refused, Shipped, Scrapped}
 use Rattle.orders.specs.Lines.{lines_of}
-use Rattle.orders.specs.Days.{DayInputs, MasterOpened, empty_stock, answer_lines, Closed, calls_in, answers_in, Worked, EndedAs}
+use Rattle.orders.specs.Days.{DayInputs, MasterOpened, morning, answer_lines, Closed, calls_in, answers_in, Worked, EndedAs}
 use Rattle.orders.specs.Steps.{LinesAnswered}
 
--- a layout has its file's length
-by_name : (head : List ℕ) (n : ℕ) (name : Option FormatName) (y : Layout) → layouts.OpenedAs head n name (Ok y) → y.table.length ≡ n
-by_name head n None y h = absurd cc
-by_name head n (Some name) y h = h.table.length
-
-by_header : (head : List ℕ) (n : ℕ) (names : ℕ → Option FormatName) (r : Result Header Refusal) (y : Layout) → OpenedIn head n names r (Ok y) → y.table.length ≡ n
-by_header head n names (Err e) y h = absurd cc
-by_header head n names (Ok header) y h = by_name head n (header_name names header) y h
-
-opened_length : (head : List ℕ) (n : ℕ) (names : ℕ → Option FormatName) (y : Layout) → OpenedBy head n names (Ok y) → y.table.length ≡ n
-opened_length head n names y h = by_header head n names (header_read head n) y h
-
 -- the program's job and shelves, just opened
-pub first_state : (g : DayInputs) (j : Job) (v : Shelves) (marks : Shelf Mark) (bytes : Shelf ℕ) (lent_marks : List Mark) (lent_bytes : List ℕ) → book_of j ≡ fresh_book j.layout.table (Some 1)
-    → v.marks ≡ marks → v.bytes ≡ bytes → New lent_marks marks → New lent_bytes bytes → length lent_marks ≡ 64 → length lent_bytes ≡ 4096
-    → state_of j g.master v ≡ opened_state j.layout.table 1 g.master empty_stock
-first_state g j v marks bytes lent_marks lent_bytes book a b m n few_marks few_bytes =
-    let e = ap contents a ∙ m.holds in
-    let f = ap contents b ∙ n.holds in
-    let h : capacity_of v.marks ≡ 64 = ap capacity_of a ∙ m.capacity ∙ ap (λ k. min k 1073741824) few_marks in
-    let k : capacity_of v.bytes ≡ 4096 = ap capacity_of b ∙ n.capacity ∙ ap (λ k. min k 1073741824) few_bytes in
-    λ i. record { book = book i; file = g.master; stock = record { marks = e i; bytes = f i; most_marks = h i; most_bytes = k i } }
+pub first_state : (g : DayInputs) (b : Book) (k : Stock) (marks : Shelf Mark) (bytes : Shelf ℕ) (lent_marks : List Mark) (lent_bytes : List ℕ)
+    → b ≡ fresh_book b.layout (Some 1) → k ≡ stock_on marks bytes → New lent_marks marks → New lent_bytes bytes → length lent_marks ≡ 64 → length lent_bytes ≡ 4096
+    → state_of b g.master k ≡ morning b.layout g.master
+first_state g b k marks bytes lent_marks lent_bytes book stock m n few_marks few_bytes =
+    opened_is b.layout 1 g.master book (stock ∙ is_empty_stock (stock_on marks bytes) m.holds n.holds
+    (m.capacity ∙ ap (λ i. min i 1073741824) few_marks) (n.capacity ∙ ap (λ i. min i 1073741824) few_bytes))
 
-module _ (g : DayInputs) (y : Layout) (opened : MasterOpened g (Ok y)) where
+module _ (g : DayInputs) (y : Layout) (opened : MasterOpened g (Ok y)) (sized : length g.master ≡ y.table.length) where
   abbrev first : State
-  first = opened_state y.table 1 g.master empty_stock
-
-  sized : length g.master ≡ y.table.length
-  sized = sym (opened_length (take 148 g.master) (length g.master) (name_for plain_rows) y opened)
+  first = morning y g.master
 
   module _ (lines : List (List ℕ)) (s₀ s : State) (new : List ℕ) (same : s₀ ≡ first) (all : LinesAnswered lines s₀ g.before s new) where
     abbrev calls : List Deed
@@ -67,21 +40,13 @@ module _ (g : DayInputs) (y : Layout) (opened : MasterOpened g (Ok y)) where
     end = all.left ∙ ap (λ (x : State). after_all x calls) same
 
     law : Law y 1 64 4096 g.master (history_of calls (answers_to first calls)) s
-    law = subst (Law y 1 64 4096 g.master (history_of calls (answers_to first calls))) (sym end) (law_run y 1 g.master empty_stock calls sized refl refl)
-
-    told_so : s ≡ told y.table 1 64 4096 g.master (history_of calls (answers_to first calls))
-    told_so = told_again y 1 64 4096 g.master (history_of calls (answers_to first calls)) s law
+    law = subst (Law y 1 64 4096 g.master (history_of calls (answers_to first calls))) (sym end) (law_run y 1 g.master (empty_stock 64 4096) calls sized refl refl)
 
     pub numbered : s.book.number ≡ Some 1
-    numbered = ap (λ (x : State). x.book.number) told_so
+    numbered = law.numbered
 
     pub at_home : AtHome s
-    at_home =
-        let ours = ours_run y 1 g.master empty_stock calls sized refl refl in
-        subst AtHome (sym end) (record {
-          sized = ours.1 ∙ sym (ap (λ (x : State). x.book.table.length) (sym end ∙ told_so));
-          ours = ours.0;
-        })
+    at_home = subst AtHome (sym end) (home_run y 1 g.master (empty_stock 64 4096) calls sized refl refl)
 
   module _ (s₀ s : State) (new : List ℕ) (same : s₀ ≡ first) (all : LinesAnswered (lines_of g.orders) s₀ g.before s new) where
     worked : (ending : Ending) (file : List ℕ) → Closed s ending file → Worked g ending file new

@@ -1,12 +1,17 @@
 -- Reading hex digits is taking the digits back to their bytes.
 use Rattle.std.proofs.Common.{◌≡◌, ℕ, zero, suc, ◌-◌, ◌+◌, ◌*◌, ◌/◌, ◌%◌, ◌<◌, ◌≤◌, true, false, not, ◌&&◌, eqb, leb, List, [], ◌∷◌, ◌++◌, length, Some, refl, sym, ap, ap₂, ◌∙◌, subst, arith, inl, inr, append_assoc, length-append}
 use Rattle.std.proofs.lemmas.List.{append-nil}
+use Rattle.std.proofs.lemmas.List.Elements.{All-nil, All-cons, All-head, All-tail}
 use Rattle.std.proofs.lemmas.Bool.{cases_lt, lt-ltb, le-ltb, and_parts, eqb-true, eq-eqb, ne_eqb, leb-true, le-leb, lt-leb, or_cases}
 use Rattle.std.proofs.lemmas.Option.{cond_some}
 use Rattle.std.specs.Fmt.{digit_glyph}
-use Rattle.std.specs.List.{list_all, flat_map, AllByRecursion}
+use Rattle.std.specs.List.{list_all, flat_map, All}
 use Rattle.orders.specs.Spelling.{hex_pair}
 use Rattle.orders.specs.Words.{is_hex, are_pairs, nibble, hex_bytes, hex_bytes_at}
+
+-- a byte has eight bits
+abbrev IsByte : ℕ → Type 0
+IsByte b = b < 256
 
 -- what a hex digit counts has that digit
 nibble_takes : (d : ℕ) → is_hex d ≡ true → (digit_glyph false (nibble d) ≡ d) × (nibble d < 16)
@@ -30,12 +35,12 @@ glyph_again n small = elim (cases_lt n 10) [
   | inr le ↦ rw (le-ltb n 10 le, le-leb 48 (87 + n) (omega arith), lt-leb (87 + n) 57 (omega arith), le-leb 97 (87 + n) (omega arith), le-leb (87 + n) 102 (omega arith), le-ltb (87 + n) 97 (omega arith)) (refl, omega arith)
 ]
 
-spelled : (bs : List ℕ) → AllByRecursion (λ b. b < 256) bs
+spelled : (bs : List ℕ) → All IsByte bs
     → (list_all is_hex (flat_map hex_pair bs) ≡ true) × (length (flat_map hex_pair bs) ≡ 2 * length bs) × (hex_bytes (flat_map hex_pair bs) ≡ bs)
 spelled [] h = (refl, refl, refl)
 spelled (b ∷ bs) h =
-    let rest = spelled bs h.1 in
-    let high = glyph_again (b / 16) (omega (arith, h.0)) in
+    let rest = spelled bs (All-tail IsByte b bs h) in
+    let high = glyph_again (b / 16) (omega (arith, All-head IsByte b bs h)) in
     let low = glyph_again (b % 16) (omega arith) in (
       rw (high.0, low.0) rest.0,
       omega (arith, rest.1),
@@ -43,15 +48,15 @@ spelled (b ∷ bs) h =
     )
 
 -- bytes are read from their digits
-pub bytes_again : (bs : List ℕ) → 0 < length bs → AllByRecursion (λ b. b < 256) bs → hex_bytes_at (flat_map hex_pair bs) ≡ Some bs
+pub bytes_again : (bs : List ℕ) → 0 < length bs → All IsByte bs → hex_bytes_at (flat_map hex_pair bs) ≡ Some bs
 bytes_again bs some small =
     let w = spelled bs small in
     let two : length (flat_map hex_pair bs) ≡ 2 * length bs = w.1 in
     rw (ne_eqb (length (flat_map hex_pair bs)) 0 (λ e. omega arith), eq-eqb (length (flat_map hex_pair bs) % 2) 0 (omega arith), w.0, w.2) refl
 
 taken : (ds : List ℕ) → length ds % 2 ≡ 0 → list_all is_hex ds ≡ true
-    → (flat_map hex_pair (hex_bytes ds) ≡ ds) × (2 * length (hex_bytes ds) ≡ length ds) × AllByRecursion (λ b. b < 256) (hex_bytes ds)
-taken [] even h = (refl, refl, tt)
+    → (flat_map hex_pair (hex_bytes ds) ≡ ds) × (2 * length (hex_bytes ds) ≡ length ds) × All IsByte (hex_bytes ds)
+taken [] even h = (refl, refl, All-nil IsByte)
 taken (d ∷ []) even h = absurd (omega arith)
 taken (d ∷ e ∷ ds) even h =
     let a = and_parts (is_hex d) (is_hex e && list_all is_hex ds) h in
@@ -63,24 +68,24 @@ taken (d ∷ e ∷ ds) even h =
     let low : (nibble d * 16 + nibble e) % 16 ≡ nibble e = omega (arith, x.1, y.1) in (
       rw (high, low, x.0, y.0) (ap (λ (xs : List ℕ). d ∷ e ∷ xs) rest.0),
       omega (arith, rest.1),
-      (omega (arith, x.1, y.1), rest.2),
+      All-cons IsByte _ _ (omega (arith, x.1, y.1)) rest.2,
     )
 
 -- and from nothing else
-pub bytes_takes : (ds bs : List ℕ) → hex_bytes_at ds ≡ Some bs → (ds ≡ flat_map hex_pair bs) × (0 < length bs) × AllByRecursion (λ b. b < 256) bs
+pub bytes_takes : (ds bs : List ℕ) → hex_bytes_at ds ≡ Some bs → (ds ≡ flat_map hex_pair bs) × (0 < length bs) × All IsByte bs
 bytes_takes ds bs e =
     let c = cond_some (are_pairs ds) (hex_bytes ds) bs e in
     let a = and_parts (not (eqb (length ds) 0)) (eqb (length ds % 2) 0 && list_all is_hex ds) c.0 in
     let b = and_parts (eqb (length ds % 2) 0) (list_all is_hex ds) a.1 in
     let t = taken ds (eqb-true _ _ b.0) b.1 in
     let some : 0 < length ds = not_none (length ds) a.0 in
-    subst (λ (xs : List ℕ). (ds ≡ flat_map hex_pair xs) × (0 < length xs) × AllByRecursion (λ b. b < 256) xs) c.1 (sym t.0, omega (arith, t.1), t.2)
+    subst (λ (xs : List ℕ). (ds ≡ flat_map hex_pair xs) × (0 < length xs) × All IsByte xs) c.1 (sym t.0, omega (arith, t.1), t.2)
   where
     not_none : (n : ℕ) → not (eqb n 0) ≡ true → 0 < n
     not_none zero h = absurd cc
     not_none (suc n) h = omega arith
 
-pub all_hex : (bs : List ℕ) → AllByRecursion (λ b. b < 256) bs → list_all is_hex (flat_map hex_pair bs) ≡ true
+pub all_hex : (bs : List ℕ) → All IsByte bs → list_all is_hex (flat_map hex_pair bs) ≡ true
 all_hex bs small = (spelled bs small).0
 
 -- while bytes are read from digits: those that were read, and the digits that are left

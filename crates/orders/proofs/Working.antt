@@ -1,13 +1,16 @@
 -- While the lines of a text are answered: what was printed, and how much room is left.
-use Rattle.std.proofs.Common.{◌≡◌, ℕ, zero, suc, ◌+◌, ◌*◌, ◌<◌, ◌≤◌, List, [], ◌∷◌, ◌++◌, length, take, drop, Some, None, Option, Ok, Err, Result, refl, sym, ap, ap₂, ◌∙◌, subst, arith, append_assoc, length-append, length-take, length-drop}
+use Rattle.std.proofs.Common.{◌≡◌, ℕ, zero, suc, max, ◌+◌, ◌*◌, ◌<◌, ◌≤◌, List, [], ◌∷◌, ◌++◌, length, take, drop, Some, None, Option, Ok, Err, Result, refl, sym, ap, ap₂, ◌∙◌, subst, arith, append_assoc, length-append, length-take, length-drop}
 use Rattle.std.specs.Prelude.{decimal, codes, IfOk}
-use Rattle.std.specs.List.{AllByRecursion, position_from}
+use Rattle.std.specs.List.{All, position_from, sum_by}
 use Rattle.std.proofs.lemmas.List.{append-nil}
+use Rattle.std.proofs.lemmas.List.Elements.{All-nil, All-cons, All-tail}
+use Rattle.std.proofs.lemmas.List.Sums.{sum_by-cons}
 use Rattle.std.proofs.lemmas.Fmt.{length-decimal-le}
 use Rattle.refusal.specs.declared.Refusal.{Refusal}
-use Rattle.refusal.specs.declared.Refusal.TheVariants.{WrongLength, WrongMagic, WrongHeaderSize, ShortExtendedHeader, UnknownFormat, NoShape, OutOfRange, TooManyLevels, WrongEnd, NoSuchPiece, PastFileEnd, OtherLength, PieceOut, TooManyLoans, NumbersUsedUp, LoanNotOut, OtherBorrower, ForeignShelves, OutsideRow, NoSpace, NothingToUndo, OtherDocket, LoansOut, ShelfFull, PastCount, MalformedOrder, OverLimit}
 use Rattle.refusal.specs.Numbers.{number_of}
 use Rattle.loans.specs.Rules.{Deed, answers_to, after_all}
+use Rattle.refusal.proofs.Numbers.{number_small}
+use Rattle.loans.specs.Stocks.{Stock, SameRoom, answer_limit}
 use Rattle.loans.specs.Strokes.{State}
 use Rattle.orders.specs.Replies.{reply_text, reply_to}
 use Rattle.orders.specs.Spelling.{Wording, spelling}
@@ -15,42 +18,14 @@ use Rattle.orders.specs.Spelling.Wording.{lend, lend_element, paint, undo, keep,
 use Rattle.orders.specs.Lines.{lines_of, is_end, Begins}
 use Rattle.orders.specs.Days.{Asks, answer_lines, calls_in, answers_in}
 use Rattle.orders.specs.Steps.{answer_for, after_line, LineAnswered, LinesAnswered}
+use Rattle.loans.proofs.Limits.{same_itself, same_then}
 use Rattle.orders.proofs.Cutting.{begins_none, begins_some, end_inside}
 
 -- ---- a line is short
 
-refusal_small : (e : Refusal) → number_of e < 100
-refusal_small WrongLength = omega arith
-refusal_small WrongMagic = omega arith
-refusal_small WrongHeaderSize = omega arith
-refusal_small ShortExtendedHeader = omega arith
-refusal_small UnknownFormat = omega arith
-refusal_small NoShape = omega arith
-refusal_small OutOfRange = omega arith
-refusal_small TooManyLevels = omega arith
-refusal_small WrongEnd = omega arith
-refusal_small NoSuchPiece = omega arith
-refusal_small PastFileEnd = omega arith
-refusal_small OtherLength = omega arith
-refusal_small PieceOut = omega arith
-refusal_small TooManyLoans = omega arith
-refusal_small NumbersUsedUp = omega arith
-refusal_small LoanNotOut = omega arith
-refusal_small OtherBorrower = omega arith
-refusal_small ForeignShelves = omega arith
-refusal_small OutsideRow = omega arith
-refusal_small NoSpace = omega arith
-refusal_small NothingToUndo = omega arith
-refusal_small OtherDocket = omega arith
-refusal_small LoansOut = omega arith
-refusal_small ShelfFull = omega arith
-refusal_small PastCount = omega arith
-refusal_small MalformedOrder = omega arith
-refusal_small OverLimit = omega arith
-
 refusal_short : (e : Refusal) → length (reply_text (reply_to (Err e))) ≤ 6
 refusal_short e =
-    let small = refusal_small e in
+    let small = number_small e in
     omega (arith, length-append (codes "no ") (decimal (number_of e) ++ 10 ∷ []), length-append (decimal (number_of e)) (10 ∷ []), length-decimal-le 2 (number_of e) (omega arith) (omega arith) (omega arith))
 
 -- a printed answer has at most nine bytes
@@ -58,6 +33,11 @@ pub reply_short : (a : Result ℕ Refusal) → IfOk a (λ n. n ≤ 65535) → le
 reply_short (Ok n) h =
     omega (arith, length-append (codes "ok ") (decimal n ++ 10 ∷ []), length-append (decimal n) (10 ∷ []), length-decimal-le 5 n (omega arith) (omega (arith, h)) (omega (arith, h)))
 reply_short (Err e) h = omega (arith, refusal_short e)
+
+-- where the limit is that number, and the shelves can hold as much as at first
+pub few_digits : {k m : Stock} → SameRoom k m → answer_limit k ≡ 65535 → (a : Result ℕ Refusal) → IfOk a (λ n. n ≤ answer_limit m) → IfOk a (λ n. n ≤ 65535)
+few_digits same limit (Ok n) h = omega (arith, h, ap (max 65535) same.marks, limit)
+few_digits same limit (Err e) h = tt
 
 -- ---- lines are short
 
@@ -67,12 +47,18 @@ weight [] = 1
 weight (b ∷ bs) = length (b ∷ bs)
 
 abbrev pub weights : List (List ℕ) → ℕ
-weights [] = 0
-weights (l ∷ ls) = weight l + weights ls
+weights ls = sum_by weight ls
+
+pub weights_more : {ls left : List (List ℕ)} (line : List ℕ) → ls ≡ line ∷ left → weights ls ≡ weight line + weights left
+weights_more {ls} {left} line e = ap weights e ∙ sum_by-cons weight line left
+
+-- no longer than that
+abbrev pub Within : ℕ → List ℕ → Type 0
+Within m l = length l ≤ m
 
 -- the lines of a text take no more than the text, and none is longer than it
 abbrev pub Small : ℕ → List ℕ → Type 0
-Small m text = (weights (lines_of text) ≤ length text) × AllByRecursion (λ l. length l ≤ m) (lines_of text)
+Small m text = (weights (lines_of text) ≤ length text) × All (Within m) (lines_of text)
 
 weight_most : (l : List ℕ) → weight l ≤ length l + 1
 weight_most [] = omega arith
@@ -81,15 +67,15 @@ weight_most (b ∷ bs) = omega arith
 joined : (m : ℕ) (text line after : List ℕ) → Begins text line after → 0 < length text → weight line + length after ≤ length text → length line ≤ m → Small m after → Small m text
 joined m text line after b some fits short rest =
     let is = (b some).0 in
-    (omega (arith, ap weights is, fits, rest.0), subst (AllByRecursion (λ l. length l ≤ m)) (sym is) (short, rest.1))
+    (omega (arith, weights_more line is, fits, rest.0), subst (All (Within m)) (sym is) (All-cons (Within m) line (lines_of after) short rest.1))
 
 pub lines_small : (fuel m : ℕ) (text : List ℕ) → length text ≤ fuel → length text ≤ m → Small m text
-lines_small fuel m [] f h = (omega arith, tt)
+lines_small fuel m [] f h = (omega arith, All-nil (Within m))
 lines_small zero m (b ∷ text) f h = absurd (omega arith)
 lines_small (suc fuel) m (b ∷ text) f h = go (position_from is_end 0 (b ∷ text)) refl (lines_small fuel m)
   where
     go : (r : Option ℕ) → position_from is_end 0 (b ∷ text) ≡ r → ((after : List ℕ) → length after ≤ fuel → length after ≤ m → Small m after) → Small m (b ∷ text)
-    go None e rest = joined m (b ∷ text) (b ∷ text) [] (begins_none (b ∷ text) e) (omega arith) (omega arith) h (omega arith, tt)
+    go None e rest = joined m (b ∷ text) (b ∷ text) [] (begins_none (b ∷ text) e) (omega arith) (omega arith) h (omega arith, All-nil (Within m))
     go (Some n) e rest =
         let begins = begins_some (b ∷ text) n e in
         let less = (begins (omega arith)).1 in
@@ -151,27 +137,27 @@ pub record Working (all : List (List ℕ)) (n : ℕ) (s₀ s : State) (old items
   pub rest : (t : State) (new : List ℕ) → LinesAnswered left s items t new → LinesAnswered all s₀ old t new
   pub room : len + 6 * weights left ≤ len₀ + 6 * n
   pub same : cap ≡ cap₀
-  pub short : AllByRecursion (λ l. length l ≤ 16384) left
-  pub most : s.stock.most_marks ≤ 65535
+  pub short : All (Within 16384) left
+  pub most : SameRoom s₀.stock s.stock
 
-pub working_first : (text : List ℕ) (s : State) (old : List ℕ) (left : List (List ℕ)) (len cap : ℕ) → length text ≤ 16384 → s.stock.most_marks ≤ 65535 → left ≡ lines_of text
+pub working_first : (text : List ℕ) (s : State) (old : List ℕ) (left : List (List ℕ)) (len cap : ℕ) → length text ≤ 16384 → left ≡ lines_of text
     → Working (lines_of text) (length text) s s old old left len len cap cap
-working_first text s old left len cap short most e =
+working_first text s old left len cap short e =
     let small = lines_small (length text) 16384 text (omega arith) short in
     subst (λ ls. Working (lines_of text) (length text) s s old old ls len len cap cap) (sym e)
-    (record { rest = λ t new h. h; room = omega (arith, small.0); same = refl; short = small.1; most = most })
+    (record { rest = λ t new h. h; room = omega (arith, small.0); same = refl; short = small.1; most = same_itself s.stock })
 
 pub working_more : (all : List (List ℕ)) (n : ℕ) (s₀ s t : State) (old items items' : List ℕ) (line : List ℕ) (now left : List (List ℕ)) (len₀ len len' cap₀ cap cap' : ℕ) (a : Result ℕ Refusal)
     → now ≡ line ∷ left → Working all n s₀ s old items now len₀ len cap₀ cap → LineAnswered line s a t → IfOk a (λ n. n ≤ 65535) → items' ≡ items ++ reply_text (reply_to a)
-    → len' ≡ len + length (reply_text (reply_to a)) → cap' ≡ cap → t.stock.most_marks ≡ s.stock.most_marks → Working all n s₀ t old items' left len₀ len' cap₀ cap'
+    → len' ≡ len + length (reply_text (reply_to a)) → cap' ≡ cap → SameRoom s.stock t.stock → Working all n s₀ t old items' left len₀ len' cap₀ cap'
 working_more all n s₀ s t old items items' line now left len₀ len len' cap₀ cap cap' a e w one small printed longer same most =
     let here = subst (λ ls. Working all n s₀ s old items ls len₀ len cap₀ cap) e w in
     record {
       rest = λ u new h. here.rest u new (one_answered line left s t u a items items' new one printed h);
-      room = omega (arith, here.room, longer, printed_little line s t a one small);
+      room = omega (arith, w.room, longer, weights_more line e, printed_little line s t a one small);
       same = same ∙ here.same;
-      short = here.short.1;
-      most = omega (arith, here.most, most);
+      short = All-tail (Within 16384) line left here.short;
+      most = same_then here.most most;
     }
 
 pub working_last : (all : List (List ℕ)) (n : ℕ) (s₀ s : State) (old items : List ℕ) (left : List (List ℕ)) (len₀ len cap₀ cap : ℕ) → left ≡ []

@@ -1,13 +1,13 @@
 -- What a day's orders come to.
 use Rattle.std.specs.Prelude.{◌≡◌, ℕ, ◌*◌, ◌<◌, Bool, ◌||◌, if◌then◌else◌, List, [], ◌∷◌, ◌++◌, length, take, Some, None, Option, Ok, Err, Result, nat_lt}
 use Rattle.std.specs.Bool.{MatchBool}
-use Rattle.std.specs.List.{flat_map}
+use Rattle.std.specs.List.{AllZip, filter_map, flat_map}
 use Rattle.refusal.specs.declared.Refusal.{Refusal}
 use Rattle.refusal.specs.declared.Refusal.TheVariants.{MalformedOrder, OverLimit}
 use Rattle.formats.specs.Codes.{name_for, plain_rows}
 use Rattle.dds.specs.declared.layout.Layout.{Layout}
 use Rattle.dds.specs.Layouts.{OpenedBy}
-use Rattle.loans.specs.Stocks.{Stock}
+use Rattle.loans.specs.Stocks.{empty_stock}
 use Rattle.loans.specs.Strokes.{State}
 use Rattle.loans.specs.Rules.{Deed, answers_to}
 use Rattle.loans.specs.History.{history_of}
@@ -34,13 +34,6 @@ closing_reply Scrapped = replies.Scrap
 abbrev pub Asks : List ℕ → Option Deed → Type 0
 Asks line (Some d) = (t : Wording) × IsOrder t × (line ≡ spelling t) × (d ≡ deed_for t)
 Asks line None = SpellsNone line
-
--- each line asks for what stands in its place
-abbrev pub EachAsks : List (List ℕ) → List (Option Deed) → Type 0
-EachAsks [] [] = Unit {0}
-EachAsks [] (w ∷ ws) = ⊥
-EachAsks (l ∷ ls) [] = ⊥
-EachAsks (l ∷ ls) (w ∷ ws) = Asks l w × EachAsks ls ws
 
 -- the lines that are printed for answers
 abbrev pub answer_lines : List (Result ℕ Refusal) → List ℕ
@@ -70,15 +63,13 @@ room_for orders = if nat_lt LONGEST_ORDERS (length orders) then 0 else 6 * lengt
 abbrev pub MasterOpened : DayInputs → Result Layout Refusal → Type 0
 MasterOpened g r = OpenedBy (take 148 g.master) (length g.master) (name_for plain_rows) r
 
--- the program's shelves at first: they have room for 64 marks and 4,096 bytes
-abbrev pub empty_stock : Stock
-empty_stock = record { marks = []; bytes = []; most_marks = 64; most_bytes = 4096 }
+-- the job and the shelves at first: number 1, and room for 64 marks and 4,096 bytes
+abbrev pub morning : Layout → List ℕ → State
+morning y master = opened_state y 1 master (empty_stock 64 4096)
 
 -- the calls that lines ask for, in their order
 abbrev pub calls_in : List (Option Deed) → List Deed
-calls_in [] = []
-calls_in (None ∷ ws) = calls_in ws
-calls_in (Some d ∷ ws) = d ∷ calls_in ws
+calls_in wishes = filter_map (λ (w : Option Deed). w) wishes
 
 -- what is answered to each line, where those are the answers to the calls
 abbrev pub answers_in : List (Option Deed) → List (Result ℕ Refusal) → List (Result ℕ Refusal)
@@ -93,10 +84,10 @@ pub record Worked (g : DayInputs) (ending : Ending) (file new : List ℕ) : Type
   pub layout : Layout
   pub opened : MasterOpened g (Ok layout)
   pub wishes : List (Option Deed)
-  pub asked : EachAsks (lines_of g.orders) wishes
+  pub asked : AllZip Asks (lines_of g.orders) wishes
   pub answers : List (Result ℕ Refusal)
   pub each : length answers ≡ length (calls_in wishes)
-  pub by_rules : answers ≡ answers_to (opened_state layout.table 1 g.master empty_stock) (calls_in wishes)
+  pub by_rules : answers ≡ answers_to (morning layout g.master) (calls_in wishes)
   pub printed : new ≡ g.before ++ answer_lines (answers_in wishes answers)
   pub end : State
   pub law : Law layout 1 64 4096 g.master (history_of (calls_in wishes) answers) end

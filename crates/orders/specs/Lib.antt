@@ -6,3 +6,15 @@ pub mod Lines
 pub mod Days
 pub mod Reading
 pub mod Steps
+-- what the promises here cite of the crates below
+pub use Rattle.refusal.specs.Numbers
+pub use Rattle.formats.specs.Codes
+pub use Rattle.dds.specs.Pieces
+pub use Rattle.dds.specs.Layouts
+pub use Rattle.loans.specs.Stocks
+pub use Rattle.loans.specs.Strokes
+pub use Rattle.loans.specs.Rules
+pub use Rattle.loans.specs.History
+pub use Rattle.loans.specs.Law
+pub use Rattle.loans.specs.Runs
+pub use Rattle.loans.specs.Ending

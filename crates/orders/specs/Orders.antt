@@ -2,6 +2,8 @@
 use Rattle.std.specs.Prelude.{◌≡◌, ◌≢◌, ℕ, ◌≤◌, List, length, Ok, Err, Result}
 use Rattle.refusal.specs.declared.Refusal.{Refusal}
 use Rattle.refusal.specs.declared.Refusal.TheVariants.{MalformedOrder}
+use Rattle.dds.specs.Pieces.{piece_of}
+use Rattle.loans.specs.Strokes.{painting_on}
 use Rattle.loans.specs.Rules.{Deed}
 use Rattle.loans.specs.Rules.{Deed as calls}
 use Rattle.orders.specs.declared.digits.Digits.{Digits}
@@ -19,8 +21,7 @@ digits_of ds = ds.digits.now
 abbrev pub as_worded : Order → Wording
 as_worded (Loan p who) = lend p who
 as_worded (LoanElement e who) = lend_element e who
-as_worded (Paint n who row' first' ds) =
-    paint (record { loan = n; borrower = who; row = row'; first = first'; laid = hex_bytes (digits_of ds) })
+as_worded (Paint n who row first ds) = paint (painting_on n who row first (hex_bytes (digits_of ds)))
 as_worded (Undo n who) = undo n who
 as_worded (Keep n) = keep n
 as_worded (Cancel n) = cancel n
@@ -41,7 +42,7 @@ EachLineIsOneOrder = (a b : Wording) → IsOrder a → IsOrder b → spelling a 
 -- the call that an order means; the short order of a loan is of level 0 and slice 0
 abbrev pub deed_for : Wording → Deed
 deed_for (lend p who) = calls.lend p who
-deed_for (lend_element e who) = calls.lend (record { element = e; level = 0; slice = 0 }) who
+deed_for (lend_element e who) = calls.lend (piece_of e 0 0) who
 deed_for (paint p) = calls.paint p
 deed_for (undo n who) = calls.undo n who
 deed_for (keep n) = calls.keep n

@@ -2,6 +2,8 @@
 use Rattle.std.specs.Prelude.{ℕ, Bool, cond, List, [], ◌∷◌, Some, None, Option, ◌==◌}
 use Rattle.std.specs.List.{slice_split}
 use Rattle.std.specs.Option.{option_map, option_and_then}
+use Rattle.dds.specs.Pieces.{piece_of}
+use Rattle.loans.specs.Strokes.{painting_on}
 use Rattle.orders.specs.Spelling.{Wording}
 use Rattle.orders.specs.Spelling.Wording.{lend, lend_element, paint, undo, keep, cancel}
 use Rattle.orders.specs.Words.{value_at, hex_bytes_at}
@@ -17,7 +19,7 @@ with_number word rest = option_and_then rest (value_at word)
 -- the order of an L line, by its words behind the letter
 abbrev pub loan_at : List (List ℕ) → Option Wording
 loan_at (e ∷ l ∷ s ∷ who ∷ []) =
-    with_number e (λ e. with_number l (λ l. with_number s (λ s. with_number who (λ who. Some (lend (record { element = e; level = l; slice = s }) who)))))
+    with_number e (λ e. with_number l (λ l. with_number s (λ s. with_number who (λ who. Some (lend (piece_of e l s) who)))))
 loan_at (e ∷ who ∷ []) = with_number e (λ e. with_number who (λ who. Some (lend_element e who)))
 loan_at ws = None
 
@@ -25,7 +27,7 @@ loan_at ws = None
 abbrev pub paint_at : List (List ℕ) → Option Wording
 paint_at (n ∷ who ∷ r ∷ f ∷ ds ∷ []) =
     with_number n (λ n. with_number who (λ who. with_number r (λ r. with_number f (λ f.
-    option_and_then (λ bytes. Some (paint (record { loan = n; borrower = who; row = r; first = f; laid = bytes }))) (hex_bytes_at ds)))))
+    option_and_then (λ bytes. Some (paint (painting_on n who r f bytes))) (hex_bytes_at ds)))))
 paint_at ws = None
 
 -- of a U line

@@ -1,7 +1,7 @@
 -- How an order is spelled: by one line, and no other.
 use Rattle.std.specs.Prelude.{ℕ, ◌<◌, ◌^◌, ◌/◌, ◌%◌, false, List, [], ◌∷◌, ◌++◌, map, length, decimal}
 use Rattle.std.specs.Fmt.{digit_glyph}
-use Rattle.std.specs.List.{AllByRecursion, flat_map, join_with_byte}
+use Rattle.std.specs.List.{All, flat_map, join_with_byte}
 use Rattle.dds.specs.declared.piece.Piece.{Piece}
 use Rattle.loans.specs.Strokes.{Painting}
 
@@ -57,12 +57,12 @@ spelling o = join_with_byte 32 (words o)
 abbrev pub LaysBytes : Wording → Type 0
 LaysBytes (lend p who) = Unit {0}
 LaysBytes (lend_element e who) = Unit {0}
-LaysBytes (paint p) = (0 < length p.laid) × AllByRecursion (λ b. b < 256) p.laid
+LaysBytes (paint p) = (0 < length p.laid) × All (λ b. b < 256) p.laid
 LaysBytes (undo n who) = Unit {0}
 LaysBytes (keep n) = Unit {0}
 LaysBytes (cancel n) = Unit {0}
 
 -- an order that a line can tell: its numbers have 32 bits, and a paint lays bytes
 pub record IsOrder (o : Wording) : Type 0 where
-  pub numbers : AllByRecursion (λ n. n < 2 ^ 32) (numbers o)
+  pub numbers : All (λ n. n < 2 ^ 32) (numbers o)
   pub bytes : LaysBytes o

@@ -1,10 +1,11 @@
 -- How lines are answered one after the other: what the private functions of a day do. No public contract cites this.
 use Rattle.std.specs.Prelude.{◌≡◌, ℕ, List, ◌++◌, Some, None, Option, Err, Result}
+use Rattle.std.specs.List.{AllZip}
 use Rattle.refusal.specs.declared.Refusal.{Refusal}
 use Rattle.refusal.specs.declared.Refusal.TheVariants.{MalformedOrder}
 use Rattle.loans.specs.Strokes.{State}
 use Rattle.loans.specs.Rules.{Deed, answer_to, after, answers_to, after_all}
-use Rattle.orders.specs.Days.{Asks, EachAsks, answer_lines, calls_in, answers_in}
+use Rattle.orders.specs.Days.{Asks, answer_lines, calls_in, answers_in}
 
 -- what is answered to a line
 abbrev pub answer_for : State → Option Deed → Result ℕ Refusal
@@ -26,6 +27,6 @@ pub record LineAnswered (line : List ℕ) (s : State) (answer : Result ℕ Refus
 -- the calls that lines ask for were made one after the other, and a line is printed for each line
 pub record LinesAnswered (lines : List (List ℕ)) (s : State) (old : List ℕ) (t : State) (new : List ℕ) : Type 0 where
   pub wishes : List (Option Deed)
-  pub asked : EachAsks lines wishes
+  pub asked : AllZip Asks lines wishes
   pub printed : new ≡ old ++ answer_lines (answers_in wishes (answers_to s (calls_in wishes)))
   pub left : t ≡ after_all s (calls_in wishes)

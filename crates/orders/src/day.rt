@@ -1,7 +1,6 @@
 // A day's orders, from the texture and their text to the answers and how the day ends.
 ghost use Rattle.std.specs.Prelude.{◌≡◌, ◌+◌, ◌*◌, ◌<◌, ◌≤◌, ◌++◌, ◌↔◌, Some, IsErr, OnErr, IfOk, length, codes, vec_len, vec_capacity};
-ghost use Rattle.loans.specs.Jobs.{book_of};
-ghost use Rattle.loans.specs.Stocks.{stock_of};
+ghost use Rattle.loans.specs.Stocks.{SameRoom, answer_limit};
 ghost use Rattle.loans.specs.Strokes.{state_of};
 ghost use Rattle.loans.specs.Scrapping.{AtHome};
 ghost use Rattle.orders.specs.Lines.{lines_of};
@@ -86,10 +85,10 @@ fn print(printed: &mut Vec<u8>, reply: Reply)
 // Carries out what a line orders.
 fn answer(job: &mut Job, file: &mut [u8], shelves: &mut Shelves<'_>, line: &[u8]) -> Answer
     requires short { length line.now ≤ 16384 }
-    requires few { (stock_of shelves.old).most_marks ≤ 65535 }
     ensures answered { LineAnswered line.now (state_of job.old file.old shelves.old) result
         (state_of job.new file.new shelves.new) }
-    ensures small { IfOk result (λ number. number ≤ 65535) }
+    ensures room { SameRoom shelves.old shelves.new }
+    ensures limit { IfOk result (λ number. number ≤ answer_limit shelves.old) }
 {
     Order::parse(line)?.carry_out(job, file, shelves)
 }
@@ -103,7 +102,7 @@ fn answer_all(
     printed: &mut Vec<u8>,
 )
     requires short { length orders.now ≤ 16384 }
-    requires few { (stock_of shelves.old).most_marks ≤ 65535 }
+    requires limit { answer_limit shelves.old ≡ 65535 }
     requires room { vec_len printed.old + 6 * length orders.now ≤ vec_capacity printed.old }
     ensures answered { LinesAnswered (lines_of orders.now)
         (state_of job.old file.old shelves.old) printed.old.items
@@ -119,7 +118,7 @@ fn answer_all(
 
 // Ships, or scraps where a loan is out.
 fn close(docket: Docket, job: &mut Job, file: &mut [u8], shelves: &mut Shelves<'_>) -> Ending
-    requires number { (book_of job.old).number ≡ Some docket.0 }
+    requires number { job.old.number ≡ Some docket.0 }
     requires home { AtHome (state_of job.old file.old shelves.old) }
     ensures { Closed (state_of job.old file.old shelves.old) result file.new }
 {

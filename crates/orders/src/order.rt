@@ -1,5 +1,5 @@
 // What a line orders.
-ghost use Rattle.std.specs.Prelude.{◌≡◌, ◌<◌, map, length, MatchOption};
+ghost use Rattle.std.specs.Prelude.{◌≡◌, ◌<◌, ◌≤◌, IfOk, map, length, MatchOption};
 ghost use Rattle.std.specs.List.{slice_split};
 ghost use Rattle.std.specs.Option.{option_map};
 ghost use Rattle.orders.specs.Reading.{is_space, loan_at, paint_at, undo_at, only_at, order_of, order_at};
@@ -7,6 +7,7 @@ ghost use Rattle.orders.specs.Orders.{as_worded};
 ghost use Rattle.orders.specs.Words.{now_of};
 ghost use Rattle.orders.specs.Orders.{Parsed, EachLineIsOneOrder, HasShortDigits, deed_for};
 ghost use Rattle.loans.specs.Calls.{Called};
+ghost use Rattle.loans.specs.Stocks.{SameRoom, answer_limit};
 
 use crate::digits::Digits;
 use crate::number::value;
@@ -162,8 +163,10 @@ impl<'a> Order<'a> {
         shelves: &mut Shelves<'_>,
     ) -> Answer
         requires { HasShortDigits self }
-        ensures { Called (deed_for (as_worded self.entry)) job.old file.old shelves.old result
+        ensures rule { Called (deed_for (as_worded self.entry)) job.old file.old shelves.old result
             job.new file.new shelves.new }
+        ensures room { SameRoom shelves.old shelves.new }
+        ensures limit { IfOk result (λ number. number ≤ answer_limit shelves.old) }
     {
         let call = match self {
             Order::Loan { piece, borrower } => Call::Loan { piece, borrower },

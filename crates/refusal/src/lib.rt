@@ -2,7 +2,7 @@
 // number's meaning, the calls that give it, and the order in which they test.
 #![tactic(auto)]
 
-ghost use Rattle.std.specs.Prelude.{◌≡◌, Some};
+ghost use Rattle.std.specs.Prelude.{◌≡◌, ◌<◌, Some};
 ghost use Rattle.refusal.specs.Numbers.{number_of, EachNumberIsOneRefusal};
 ghost use Rattle.refusal.specs.Meanings.{meaning_of, refusal_text};
 
@@ -49,6 +49,7 @@ impl Refusal {
     pub fn number(self) -> u32
         ensures value { result ≡ number_of self }
         ensures unique { EachNumberIsOneRefusal }
+        ensures small { result < 100 }
     {
         self as u32
     }

@@ -3,7 +3,7 @@ use Rattle.std.proofs.lemmas.List.{length-map}
 use Rattle.std.proofs.lemmas.Result.{err_from_is_err_and}
 use Rattle.dds.specs.Layouts.{Opened}
 use Rattle.loans.specs.Rules.{deed_of}
-use Rattle.loans.proofs.RunMade.{made_job, opened_along, run_made}
+use Rattle.loans.proofs.RunMade.{opened_along, run_made}
 use Rattle.loans.proofs.running.run.Goals as goal
 
 pub returns-in_err-layout : goal.returns-in_err-layout
@@ -40,8 +40,7 @@ call_all-requires-clause-along g c =
       calls = map deed_of c.args.calls.now;
       old = vec_items c.args.answers.now;
       room = vec_capacity c.args.answers.now;
-    }) c.fresh-opened.result
-    (made_job _ c.fresh-opened.result c.in_ok-layout.layout opened c.fresh-opened.ensures.layout c.fresh-opened.ensures.book)
+    }) c.fresh-opened.result c.in_ok-layout.layout opened c.fresh-opened.ensures
     c.are_empty.result c.are_empty.ensures
 
 pub returns : goal.returns
@@ -49,6 +48,5 @@ returns g c =
     let opened =
     subst₂ (λ (h : List ℕ) (n : ℕ). Opened h n (g.F.Family.row_bytes c.args.family.now) (g.F.Family.rows c.args.family.now) (Ok c.in_ok-layout.layout))
     c.of.ensures.head c.of.ensures.length c.in_ok-layout.ensures in
-    run_made _ c.fresh-opened.result
-    (made_job _ c.fresh-opened.result c.in_ok-layout.layout opened c.fresh-opened.ensures.layout c.fresh-opened.ensures.book)
+    run_made _ c.fresh-opened.result c.in_ok-layout.layout opened c.fresh-opened.ensures
     c.of-2.result c.of-2.ensures (omega (arith, length-map c.args.calls.now deed_of, c.capacity.ensures, c.len.ensures)) _ _ _ refl c.call_all.ensures

@@ -2,7 +2,7 @@ use Rattle.std.proofs.Common.{Some, refl}
 use Rattle.loans.proofs.Calling.{called_answer, called_state}
 use Rattle.orders.specs.Orders.{as_worded}
 use Rattle.orders.specs.Orders.{deed_for}
-use Rattle.orders.proofs.Answering.{order_fits, answer_small}
+use Rattle.orders.proofs.Answering.{order_fits}
 use Rattle.orders.proofs.day.answer.Goals as goal
 
 pub carry_out-requires : goal.carry_out-requires
@@ -15,9 +15,6 @@ returns-clause-answered c =
     record {
       wish = Some (deed_for order);
       asks = (order, line.1, line.0, refl);
-      answered = called_answer (deed_for order) _ _ _ _ _ _ _ c.carry_out.ensures;
-      left = called_state (deed_for order) _ _ _ _ _ _ _ c.carry_out.ensures;
+      answered = called_answer (deed_for order) _ _ _ _ _ _ _ c.carry_out.ensures.rule;
+      left = called_state (deed_for order) _ _ _ _ _ _ _ c.carry_out.ensures.rule;
     }
-
-pub returns-clause-small : goal.returns-clause-small
-returns-clause-small c = answer_small (deed_for (as_worded c.in_ok-parse.field-0)) _ _ _ _ _ _ _ c.carry_out.ensures c.requires.few

@@ -13,6 +13,6 @@ loop-call-preserved c =
     along_one c.loop-call.invariant
     c.loop-call-test.true _ (state_of c.call.new.self c.call.new.file c.call.new.shelves) c.call.result
     (vec_items c.push_reserved.new.self) (vec_len c.push_reserved.new.self) (vec_capacity c.push_reserved.new.self)
-    (called_answer (deed_of (get_or c.args.calls.now c.loop-call.call-index _)) c.loop-call.self c.call.new.self c.loop-call.file c.call.new.file c.loop-call.shelves c.call.new.shelves c.call.result c.call.ensures)
-    (called_state (deed_of (get_or c.args.calls.now c.loop-call.call-index _)) c.loop-call.self c.call.new.self c.loop-call.file c.call.new.file c.loop-call.shelves c.call.new.shelves c.call.result c.call.ensures)
+    (called_answer (deed_of (get_or c.args.calls.now c.loop-call.call-index _)) c.loop-call.self c.call.new.self c.loop-call.file c.call.new.file c.loop-call.shelves c.call.new.shelves c.call.result c.call.ensures.rule)
+    (called_state (deed_of (get_or c.args.calls.now c.loop-call.call-index _)) c.loop-call.self c.call.new.self c.loop-call.file c.call.new.file c.loop-call.shelves c.call.new.shelves c.call.result c.call.ensures.rule)
     c.push_reserved.ensures.items c.push_reserved.ensures.len c.push_reserved.ensures.capacity

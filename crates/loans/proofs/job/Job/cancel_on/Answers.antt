@@ -1,27 +1,34 @@
 use Rattle.std.proofs.Common.{◌≡◌, ℕ, List, length, sym, ◌∙◌, subst, ap₂, subst₂}
 use Rattle.std.proofs.lemmas.Bool.{eqb-true}
 use Rattle.loans.specs.declared.mark.Mark.{Mark}
-use Rattle.loans.specs.Books.{outs}
 use Rattle.loans.specs.Finding.{Found}
 use Rattle.loans.specs.Ending.{InFile, restored}
 use Rattle.loans.proofs.Undone.{marks_in_file}
 use Rattle.loans.proofs.Endings.{cancel_carried}
+use Rattle.loans.proofs.Handed.{cancelled_handed}
 use Rattle.loans.proofs.job.Job.cancel_on.Goals as goal
 
 pub restore-requires-clause-inside : goal.restore-requires-clause-inside
 restore-requires-clause-inside c =
     let sized : length c.args.file.now ≡ c.args.self.now.layout.table.length = eqb-true _ _ (sym c.if-not-has_length.ensures) in
     subst₂ (λ (n : ℕ) (ms : List Mark). InFile n ms) (sym sized) (sym (c.elements.ensures.value ∙ c.marks.ensures.held))
-    (marks_in_file c.args.self.now c.args.shelves.now (sym c.if-not-owns_or_knows.ensures))
+    (marks_in_file c.args.self.now c.position_of.ensures.orderly c.args.shelves.now (sym c.if-not-owns_or_knows.ensures))
 
-pub returns : goal.returns
-returns c =
-    cancel_carried {s = c.args.self.now} {t = c.end_loan.new.self} {v = c.args.shelves.now} {f = c.args.file.now} (record {
-      loan = subst (Found (outs c.args.self.now.ledger) c.args.loan) c.in_ok-position.ensures.ok_part c.position_of.ensures;
+pub returns-clause-rule : goal.returns-clause-rule
+returns-clause-rule c =
+    cancel_carried (record {
+      orderly = c.position_of.ensures.orderly;
+      loan = subst (Found c.args.self.now.outs c.args.loan) c.in_ok-position.ensures.ok_part c.position_of.ensures.found;
       ours = sym c.if-not-owns_or_knows.ensures;
       shelves = c.drop_loan.ensures;
-      layout = c.end_loan.ensures.layout;
-      ledger = c.end_loan.ensures.ledger;
+      book = c.end_loan.ensures.book;
+      answer = c.end_loan.ensures.left;
     })
     (eqb-true _ _ (sym c.if-not-has_length.ensures))
-    (c.restore.ensures ∙ ap₂ (λ (ms : List Mark) (ks : List ℕ). restored c.args.loan c.args.file.now ms ks) (c.elements.ensures.value ∙ c.marks.ensures.held) (c.elements-2.ensures.value ∙ c.bytes.ensures.held))
+    (c.restore.ensures
+    ∙ ap₂ (λ (ms : List Mark) (ks : List ℕ). restored c.args.loan c.args.file.now ms ks) (c.elements.ensures.value ∙ c.marks.ensures.held)
+    (c.elements-2.ensures.value ∙ c.bytes.ensures.held))
+
+pub returns-clause-handed : goal.returns-clause-handed
+returns-clause-handed c =
+    cancelled_handed c.args.self.now c.args.file.now c.args.shelves.now c.args.loan c.end_loan.result _ c.position_of.ensures.orderly (returns-clause-rule c)

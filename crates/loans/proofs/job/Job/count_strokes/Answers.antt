@@ -1,17 +1,23 @@
-use Rattle.std.proofs.Common.{◌<◌, arith}
+use Rattle.std.proofs.Common.{◌<◌, length, ap, ◌∙◌, arith}
+use Rattle.loans.specs.Jobs.{Book}
+use Rattle.loans.specs.Writing.{book_counted}
 use Rattle.loans.proofs.Counting.{out_count}
-use Rattle.loans.proofs.Recounting.{counted_balanced, counted_inside, counted_given, counted_rising}
+use Rattle.loans.proofs.Recounting.{counted_in_order, counted_in}
 use Rattle.loans.proofs.job.Job.count_strokes.Goals as goal
 
 pub invariant_of-self : goal.invariant_of-self
 invariant_of-self c =
-    let s = c.args.self.now in
-    let m = c.count-ledger.result in
-    let y = c.count-ledger-2.result in
-    let out : c.args.position < s.ledger.out = omega (arith, c.requires, out_count s.ledger s.balanced) in
-    record {
-      balanced = counted_balanced s.ledger s.balanced c.args.position c.args.strokes m y out;
-      inside = counted_inside s.ledger s.balanced c.args.position c.args.strokes m y out s.layout.table.length s.inside;
-      given = counted_given s.ledger s.balanced c.args.position c.args.strokes m y out s.given;
-      rising = counted_rising s.ledger s.balanced c.args.position c.args.strokes m y out s.rising;
-    }
+    let l = c.self.inside.ledger in
+    let o = c.self.invariant in
+    let out : c.args.position < l.out = omega (arith, c.requires, ap (λ (b : Book). length b.outs) c.self.view_is, out_count l o.balanced) in
+    counted_in_order l o.balanced c.args.position c.args.strokes _ _ out _ o
+
+pub returns-clause-book : goal.returns-clause-book
+returns-clause-book c =
+    let l = c.self.inside.ledger in
+    let o = c.self.invariant in
+    let out : c.args.position < l.out = omega (arith, c.requires, ap (λ (b : Book). length b.outs) c.self.view_is, out_count l o.balanced) in
+    let marks = c.count-ledger.ensures.value ∙ ap length c.marks.ensures.held in
+    let bytes = c.count-ledger-2.ensures.value ∙ ap length c.bytes.ensures.held in
+    counted_in l o.balanced c.args.position c.args.strokes _ _ out c.self.inside.layout c.args.shelves.now marks bytes
+    ∙ ap (λ (b : Book). book_counted b c.args.position c.args.strokes c.args.shelves.now) c.self.view_is

@@ -1,29 +1,28 @@
-use Rattle.std.proofs.Common.{◌≡◌, ◌-◌, ◌<◌, sym, subst, arith, rules}
-use Rattle.loans.specs.declared.ledger.Ledger.{Ledger}
-use Rattle.loans.specs.Books.{Balanced, Inside, NumbersGiven, NumbersRise, outs}
-use Rattle.loans.specs.Writing.{kept_by, cancelled_by, ledger_ended}
+use Rattle.std.proofs.Common.{◌<◌, length, sym, ap, ◌∙◌, subst, arith}
+use Rattle.loans.specs.Books.{InOrder}
+use Rattle.loans.specs.Jobs.{Book, book_in}
+use Rattle.loans.specs.Writing.{book_ended}
 use Rattle.loans.proofs.Counting.{out_count}
-use Rattle.loans.proofs.Ended.{counts_one, ended_balanced, ended_inside, ended_given, ended_rising}
-use Rattle.loans.proofs.job.Job.end_loan.Goals.{in-Kept, in-Cancelled}
+use Rattle.loans.proofs.Ended.{counts_one, ended_in_order, ended_in}
 use Rattle.loans.proofs.job.Job.end_loan.Goals as goal
+
+pub end-requires-clause-out : goal.end-requires-clause-out
+end-requires-clause-out c =
+    omega (arith, c.requires, ap (λ (b : Book). length b.outs) c.self.view_is, out_count c.self.inside.ledger c.self.invariant.balanced)
 
 pub invariant_of-self : goal.invariant_of-self
 invariant_of-self c =
-    let s = c.args.self.now in
-    let m = c.count-ledger.result in
-    let y = c.count-ledger-2.result in
-    let more = kept_by c.args.ending in
-    let less = cancelled_by c.args.ending in
-    let out : c.args.position < s.ledger.out = omega (arith, c.requires, out_count s.ledger s.balanced) in
-    let ended = c.match-ending.ledger in
-    let is : record ended { loans = c.copy_within.new.self; out = ended.out - 1; marks = m; bytes = y } ≡ ledger_ended s.ledger c.args.position more less m y =
-    elim c.match-ending.branch [
-      | in-Kept w ↦ search rules
-      | in-Cancelled w ↦ search rules
-    ] in
-    record {
-      balanced = subst Balanced (sym is) (ended_balanced s.ledger s.balanced c.args.position more less m y out (counts_one c.args.ending));
-      inside = subst (Inside s.layout.table.length) (sym is) (ended_inside s.ledger s.balanced c.args.position more less m y out s.layout.table.length s.inside);
-      given = subst NumbersGiven (sym is) (ended_given s.ledger s.balanced c.args.position more less m y out s.given);
-      rising = subst (λ (x : Ledger). NumbersRise (outs x)) (sym is) (ended_rising s.ledger s.balanced c.args.position more less m y out (counts_one c.args.ending) s.rising);
-    }
+    let l = c.self.inside.ledger in
+    let o = c.self.invariant in
+    let out : c.args.position < l.out = omega (arith, c.requires, ap (λ (b : Book). length b.outs) c.self.view_is, out_count l o.balanced) in
+    subst (InOrder _) (sym c.end.ensures) (ended_in_order l o.balanced c.args.position _ _ _ _ out (counts_one c.args.ending) _ o)
+
+pub returns-clause-book : goal.returns-clause-book
+returns-clause-book c =
+    let l = c.self.inside.ledger in
+    let o = c.self.invariant in
+    let out : c.args.position < l.out = omega (arith, c.requires, ap (λ (b : Book). length b.outs) c.self.view_is, out_count l o.balanced) in
+    let marks = c.count-marks.ensures.value ∙ ap length c.marks.ensures.held in
+    let bytes = c.count-bytes.ensures.value ∙ ap length c.bytes.ensures.held in
+    ap (book_in c.self.inside.layout) c.end.ensures ∙ ended_in l o.balanced c.args.position c.args.ending _ _ out c.self.inside.layout c.args.shelves.now marks bytes
+    ∙ ap (λ (b : Book). book_ended b c.args.position c.args.ending c.args.shelves.now) c.self.view_is

@@ -1,15 +1,20 @@
-use Rattle.std.proofs.Common.{sym, subst}
-use Rattle.loans.specs.Books.{outs}
+use Rattle.std.proofs.Common.{[], sym, subst}
 use Rattle.loans.specs.Finding.{Found}
 use Rattle.loans.proofs.Endings.{keep_carried}
+use Rattle.loans.proofs.Handed.{kept_handed}
 use Rattle.loans.proofs.job.Job.keep_on.Goals as goal
 
-pub returns : goal.returns
-returns c f =
-    keep_carried {s = c.args.self.now} {t = c.end_loan.new.self} {v = c.args.shelves.now} (record {
-      loan = subst (Found (outs c.args.self.now.ledger) c.args.loan) c.in_ok-position.ensures.ok_part c.position_of.ensures;
+pub returns-clause-rule : goal.returns-clause-rule
+returns-clause-rule c f =
+    keep_carried (record {
+      orderly = c.position_of.ensures.orderly;
+      loan = subst (Found c.args.self.now.outs c.args.loan) c.in_ok-position.ensures.ok_part c.position_of.ensures.found;
       ours = sym c.if-not-owns_or_knows.ensures;
       shelves = c.drop_loan.ensures;
-      layout = c.end_loan.ensures.layout;
-      ledger = c.end_loan.ensures.ledger;
+      book = c.end_loan.ensures.book;
+      answer = c.end_loan.ensures.left;
     }) f
+
+pub returns-clause-handed : goal.returns-clause-handed
+returns-clause-handed c =
+    kept_handed c.args.self.now [] c.args.shelves.now c.args.loan c.end_loan.result _ c.position_of.ensures.orderly (returns-clause-rule c [])

@@ -10,5 +10,5 @@ returns c =
     let found =
     subst₂ (λ (ms : List Mark) (r : Option Newest). FoundNewest ms c.args.loan r) (c.elements-marks.ensures.value ∙ c.marks.ensures.held)
     c.in_ok-newest.ensures.ok_part c.newest_of.ensures in
-    undo_at c.args.self.now c.args.file.now c.args.shelves.now c.args.loan c.args.borrower c.in_ok-position.position
+    undo_at _ c.args.loan c.args.borrower c.in_ok-position.position
     c.in_ok-newest.newest.position c.in_ok-newest.newest.begin c.in_ok-position.ensures found

@@ -6,11 +6,11 @@ use Rattle.loans.proofs.job.Job.paint_on.Goals as goal
 
 pub returns : goal.returns
 returns c =
-    paint_carried {s = c.args.self.now} {t = c.count_strokes.new.self} {p = painting_of c.args.painting} (record {
+    paint_carried {p = painting_of c.args.painting} (record {
       tested = c.in_ok-spot.ensures;
       shelved = c.shelve.ensures;
       laid = c.lay.ensures;
       strokes = ap (λ (l : Loan). l.strokes) c.loan_at-strokes.ensures.value;
-      layout = c.count_strokes.ensures.layout;
-      ledger = c.count_strokes.ensures.ledger;
+      rising = c.count_strokes.ensures.rising;
+      book = c.count_strokes.ensures.book;
     })

@@ -5,11 +5,11 @@ use Rattle.loans.proofs.job.Job.undo_on.Goals as goal
 
 pub returns : goal.returns
 returns c =
-    undo_carried {s = c.args.self.now} {t = c.count_strokes.new.self} {f = c.args.file.now} {v = c.args.shelves.now} {w = c.take_back.new.self} (record {
+    undo_carried (record {
       tested = c.in_ok-last.ensures;
       file = c.take_back.ensures.file;
       shelves = c.take_back.ensures.shelves;
       before = ap (λ (l : Loan). l.strokes) c.loan_at-strokes.ensures.value;
-      layout = c.count_strokes.ensures.layout;
-      ledger = c.count_strokes.ensures.ledger;
+      rising = c.count_strokes.ensures.rising;
+      book = c.count_strokes.ensures.book;
     })

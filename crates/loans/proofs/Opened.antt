@@ -1,0 +1,47 @@
+-- A job just opened on a file.
+use Rattle.std.proofs.Common.{◌≡◌, ℕ, List, [], length, Some, None, Option, Ok, Err, Result, sym, ap, ◌∙◌}
+use Rattle.refusal.specs.declared.Refusal.{Refusal}
+use Rattle.formats.specs.declared.kinds.FormatName.{FormatName}
+use Rattle.dds.specs.declared.header.Header.{Header}
+use Rattle.dds.specs.declared.layout.Layout.{Layout}
+use Rattle.dds.specs.Headers.{header_read, header_name}
+use Rattle.dds.specs.Layouts.{OpenedAs, OpenedIn, OpenedBy}
+use Rattle.loans.specs.Jobs.{Book, fresh_book}
+use Rattle.loans.specs.Stocks.{Stock, empty_stock}
+use Rattle.loans.specs.Rules.{Deed, after_all}
+use Rattle.loans.specs.Runs.{opened_state}
+use Rattle.loans.specs.Scrapping.{AtHome}
+use Rattle.loans.proofs.Runs.{law_run, ours_run}
+
+-- ---- the file has the length that the job writes down
+
+by_name : (head : List ℕ) (n : ℕ) (name : Option FormatName) (y : Layout) → OpenedAs head n name (Ok y) → y.table.length ≡ n
+by_name head n None y h = absurd cc
+by_name head n (Some name) y h = h.table.length
+
+by_header : (head : List ℕ) (n : ℕ) (names : ℕ → Option FormatName) (r : Result Header Refusal) (y : Layout) → OpenedIn head n names r (Ok y) → y.table.length ≡ n
+by_header head n names (Err e) y h = absurd cc
+by_header head n names (Ok header) y h = by_name head n (header_name names header) y h
+
+pub length_by_codes : (head : List ℕ) (n : ℕ) (names : ℕ → Option FormatName) (y : Layout) → OpenedBy head n names (Ok y) → y.table.length ≡ n
+length_by_codes head n names y h = by_header head n names (header_read head n) y h
+
+-- ---- with two empty shelves
+
+pub is_empty_stock : (k : Stock) {most_marks most_bytes : ℕ} → k.marks ≡ [] → k.bytes ≡ [] → k.most_marks ≡ most_marks → k.most_bytes ≡ most_bytes
+    → k ≡ empty_stock most_marks most_bytes
+is_empty_stock k a b c d = λ i. record { marks = a i; bytes = b i; most_marks = c i; most_bytes = d i }
+
+pub opened_is : {b : Book} {k m : Stock} (y : Layout) (number : ℕ) (f : List ℕ) → b ≡ fresh_book y (Some number) → k ≡ m
+    → record { book = b; file = f; stock = k } ≡ opened_state y number f m
+opened_is y number f e h = λ i. record { book = e i; file = f; stock = h i }
+
+-- after every list of calls file and shelves are the job's
+pub home_run : (y : Layout) (number : ℕ) (file : List ℕ) (k : Stock) (ds : List Deed) → length file ≡ y.table.length → k.marks ≡ [] → k.bytes ≡ []
+    → AtHome (after_all (opened_state y number file k) ds)
+home_run y number file k ds e a b =
+    let ours = ours_run y number file k ds e a b in
+    record {
+      sized = ours.1 ∙ sym (ap (λ (z : Layout). z.table.length) (law_run y number file k ds e a b).layout);
+      ours = ours.0;
+    }
