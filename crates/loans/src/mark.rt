@@ -1,6 +1,6 @@
 // What a job shelves of each stroke that can still be undone.
 ghost use Rattle.std.specs.Prelude.{◌≡◌};
-ghost use Rattle.loans.specs.Stocks.{stock_on};
+ghost use Rattle.loans.specs.Stocks.{Fits, stock_on};
 
 use shelf::Shelf;
 use std::marker::Model;
@@ -49,6 +49,7 @@ impl<'a> Shelves<'a> {
     pub fn marks(&self) -> &Shelf<'a, Mark>
         ensures held { result.now.items ≡ self.now.marks }
         ensures most { result.now.most ≡ self.now.most_marks }
+        ensures fits { Fits self.now }
     {
         &self.marks
     }
@@ -57,6 +58,7 @@ impl<'a> Shelves<'a> {
     pub fn bytes(&self) -> &Shelf<'a, u8>
         ensures held { result.now.items ≡ self.now.bytes }
         ensures most { result.now.most ≡ self.now.most_bytes }
+        ensures fits { Fits self.now }
     {
         &self.bytes
     }

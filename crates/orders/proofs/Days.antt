@@ -4,11 +4,8 @@ use Rattle.dds.specs.declared.layout.Layout.{Layout}
 use Rattle.shelf.specs.declared.Shelf.{Shelf}
 use Rattle.shelf.specs.Calls.{New}
 use Rattle.loans.specs.declared.mark.Mark.{Mark}
-use Rattle.shelf.specs.Model.{contents, capacity_of}
-use Rattle.loans.specs.declared.job.Job.{Job}
-use Rattle.loans.specs.declared.mark.Shelves.{Shelves}
-use Rattle.loans.specs.Jobs.{book_of, fresh_book}
-use Rattle.loans.specs.Stocks.{stock_of, empty_stock}
+use Rattle.loans.specs.Jobs.{Book, fresh_book}
+use Rattle.loans.specs.Stocks.{Stock, stock_on, empty_stock}
 use Rattle.loans.specs.Strokes.{State, state_of}
 use Rattle.loans.specs.Rules.{Deed, answers_to, after_all}
 use Rattle.loans.specs.History.{history_of}
@@ -24,16 +21,16 @@ use Rattle.orders.specs.Days.{DayInputs, MasterOpened, morning, answer_lines, Cl
 use Rattle.orders.specs.Steps.{LinesAnswered}
 
 -- the program's job and shelves, just opened
-pub first_state : (g : DayInputs) (j : Job) (v : Shelves) (marks : Shelf Mark) (bytes : Shelf ℕ) (lent_marks : List Mark) (lent_bytes : List ℕ) → book_of j ≡ fresh_book j.layout.table (Some 1)
-    → v.marks ≡ marks → v.bytes ≡ bytes → New lent_marks marks → New lent_bytes bytes → length lent_marks ≡ 64 → length lent_bytes ≡ 4096
-    → state_of j g.master v ≡ morning j.layout.table g.master
-first_state g j v marks bytes lent_marks lent_bytes book a b m n few_marks few_bytes =
-    opened_is j.layout.table 1 g.master book (is_empty_stock (stock_of v) (ap contents a ∙ m.holds) (ap contents b ∙ n.holds)
-    (ap capacity_of a ∙ m.capacity ∙ ap (λ k. min k 1073741824) few_marks) (ap capacity_of b ∙ n.capacity ∙ ap (λ k. min k 1073741824) few_bytes))
+pub first_state : (g : DayInputs) (b : Book) (k : Stock) (marks : Shelf Mark) (bytes : Shelf ℕ) (lent_marks : List Mark) (lent_bytes : List ℕ)
+    → b ≡ fresh_book b.layout (Some 1) → k ≡ stock_on marks bytes → New lent_marks marks → New lent_bytes bytes → length lent_marks ≡ 64 → length lent_bytes ≡ 4096
+    → state_of b g.master k ≡ morning b.layout g.master
+first_state g b k marks bytes lent_marks lent_bytes book stock m n few_marks few_bytes =
+    opened_is b.layout 1 g.master book (stock ∙ is_empty_stock (stock_on marks bytes) m.holds n.holds
+    (m.capacity ∙ ap (λ i. min i 1073741824) few_marks) (n.capacity ∙ ap (λ i. min i 1073741824) few_bytes))
 
 module _ (g : DayInputs) (y : Layout) (opened : MasterOpened g (Ok y)) (sized : length g.master ≡ y.table.length) where
   abbrev first : State
-  first = morning y.table g.master
+  first = morning y g.master
 
   module _ (lines : List (List ℕ)) (s₀ s : State) (new : List ℕ) (same : s₀ ≡ first) (all : LinesAnswered lines s₀ g.before s new) where
     abbrev calls : List Deed

@@ -6,7 +6,6 @@ use Rattle.refusal.specs.declared.Refusal.{Refusal}
 use Rattle.refusal.specs.declared.Refusal.TheVariants.{MalformedOrder, OverLimit}
 use Rattle.formats.specs.Codes.{name_for, plain_rows}
 use Rattle.dds.specs.declared.layout.Layout.{Layout}
-use Rattle.dds.specs.declared.table.Table.{Table}
 use Rattle.dds.specs.Layouts.{OpenedBy}
 use Rattle.loans.specs.Stocks.{empty_stock}
 use Rattle.loans.specs.Strokes.{State}
@@ -65,8 +64,8 @@ abbrev pub MasterOpened : DayInputs → Result Layout Refusal → Type 0
 MasterOpened g r = OpenedBy (take 148 g.master) (length g.master) (name_for plain_rows) r
 
 -- the job and the shelves at first: number 1, and room for 64 marks and 4,096 bytes
-abbrev pub morning : Table → List ℕ → State
-morning t master = opened_state t 1 master (empty_stock 64 4096)
+abbrev pub morning : Layout → List ℕ → State
+morning y master = opened_state y 1 master (empty_stock 64 4096)
 
 -- the calls that lines ask for, in their order
 abbrev pub calls_in : List (Option Deed) → List Deed
@@ -88,7 +87,7 @@ pub record Worked (g : DayInputs) (ending : Ending) (file new : List ℕ) : Type
   pub asked : AllZip Asks (lines_of g.orders) wishes
   pub answers : List (Result ℕ Refusal)
   pub each : length answers ≡ length (calls_in wishes)
-  pub by_rules : answers ≡ answers_to (morning layout.table g.master) (calls_in wishes)
+  pub by_rules : answers ≡ answers_to (morning layout g.master) (calls_in wishes)
   pub printed : new ≡ g.before ++ answer_lines (answers_in wishes answers)
   pub end : State
   pub law : Law layout 1 64 4096 g.master (history_of (calls_in wishes) answers) end

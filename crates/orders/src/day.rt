@@ -1,6 +1,5 @@
 // A day's orders, from the texture and their text to the answers and how the day ends.
 ghost use Rattle.std.specs.Prelude.{◌≡◌, ◌+◌, ◌*◌, ◌<◌, ◌≤◌, ◌++◌, ◌↔◌, Some, IsErr, OnErr, IfOk, length, codes, vec_len, vec_capacity};
-ghost use Rattle.loans.specs.Jobs.{book_of};
 ghost use Rattle.loans.specs.Stocks.{SameRoom, answer_limit};
 ghost use Rattle.loans.specs.Strokes.{state_of};
 ghost use Rattle.loans.specs.Scrapping.{AtHome};
@@ -119,7 +118,7 @@ fn answer_all(
 
 // Ships, or scraps where a loan is out.
 fn close(docket: Docket, job: &mut Job, file: &mut [u8], shelves: &mut Shelves<'_>) -> Ending
-    requires number { (book_of job.old).number ≡ Some docket.0 }
+    requires number { job.old.number ≡ Some docket.0 }
     requires home { AtHome (state_of job.old file.old shelves.old) }
     ensures { Closed (state_of job.old file.old shelves.old) result file.new }
 {

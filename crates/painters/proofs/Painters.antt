@@ -456,24 +456,24 @@ traced : (y : Layout) (ds : List Deed) (rs : List (Result ℕ Refusal)) (place :
 traced y ds rs place r newest = record { run = of_run; placed = placed_in; pieces = newest }
   where
     -- of the answers to a run
-    at_run : (P : List (Result ℕ Refusal) → Type 0) (number : ℕ) (file : List ℕ) (k : Stock) → IsRun y.table number file k ds rs
-        → P (answers_to (opened_state y.table number file k) ds) → P rs
+    at_run : (P : List (Result ℕ Refusal) → Type 0) (number : ℕ) (file : List ℕ) (k : Stock) → IsRun y number file k ds rs
+        → P (answers_to (opened_state y number file k) ds) → P rs
     at_run P number file k is p = subst P (sym is.answers) p
 
-    of_run : (number : ℕ) (file : List ℕ) (k : Stock) → IsRun y.table number file k ds rs → NewestPainter y.table ds rs place r
+    of_run : (number : ℕ) (file : List ℕ) (k : Stock) → IsRun y number file k ds rs → NewestPainter y.table ds rs place r
     of_run number file k is =
         newest (at_run (λ x. All (OfPiece y.table) (lent y.table (history_of ds x))) number file k is (law_run y number file k ds is.length is.marks is.bytes).pieces)
 
-    all_placed : (number : ℕ) (file : List ℕ) (k : Stock) → IsRun y.table number file k ds rs → All (PlacedSo y) (standing y.table file (history_of ds rs))
+    all_placed : (number : ℕ) (file : List ℕ) (k : Stock) → IsRun y number file k ds rs → All (PlacedSo y) (standing y.table file (history_of ds rs))
     all_placed number file k is =
         let t : Table = y.table in
-        let h : List Event = history_of ds (answers_to (opened_state t number file k) ds) in
+        let h : List Event = history_of ds (answers_to (opened_state y number file k) ds) in
         let law = law_run y number file k ds is.length is.marks is.bytes in
         at_run (λ x. All (PlacedSo y) (standing t file (history_of ds x))) number file k is
         (standing_all (PlacedSo y) t file h
         (All-weaker (InRow (lent t h)) (PlacedSo y) (placed_row y (lent t h) law.pieces law.areas) (ever_laid t file h) law.rows))
 
-    placed_in : (number : ℕ) (file : List ℕ) (k : Stock) → IsRun y.table number file k ds rs → PaintedBy y (standing y.table file (history_of ds rs)) place r
+    placed_in : (number : ℕ) (file : List ℕ) (k : Stock) → IsRun y number file k ds rs → PaintedBy y (standing y.table file (history_of ds rs)) place r
     placed_in number file k is =
         subst (PaintedBy y (standing y.table file (history_of ds rs)) place) (sym (of_run number file k is file))
         (painted_by y (standing y.table file (history_of ds rs)) place (all_placed number file k is))

@@ -58,20 +58,20 @@ PaintedBy y ss place None = All (λ s. LiesOver y.table s place → ⊥) ss
 PaintedBy y ss place (Some p) = NewestOver y ss place p
 
 -- the answers are those to a run of the calls on a job just opened on a file, with two empty shelves
-pub record IsRun (t : Table) (number : ℕ) (file : List ℕ) (k : Stock) (ds : List Deed) (rs : List (Result ℕ Refusal)) : Type 0 where
-  pub length : length file ≡ t.length
+pub record IsRun (y : Layout) (number : ℕ) (file : List ℕ) (k : Stock) (ds : List Deed) (rs : List (Result ℕ Refusal)) : Type 0 where
+  pub length : length file ≡ y.table.length
   pub marks : k.marks ≡ []
   pub bytes : k.bytes ≡ []
-  pub answers : rs ≡ answers_to (opened_state t number file k) ds
+  pub answers : rs ≡ answers_to (opened_state y number file k) ds
 
 -- the painter that is told is that of the newest stroke standing over the byte
 pub record Traced (y : Layout) (ds : List Deed) (rs : List (Result ℕ Refusal)) (place : ℕ) (r : Option Painter) : Type 0 where
   -- after every run of calls on a job just opened, with two empty shelves
   pub run : (number : ℕ) (file : List ℕ) (k : Stock)
-      → IsRun y.table number file k ds rs → NewestPainter y.table ds rs place r
+      → IsRun y number file k ds rs → NewestPainter y.table ds rs place r
   -- and there each stroke lies where its numbers say
   pub placed : (number : ℕ) (file : List ℕ) (k : Stock)
-      → IsRun y.table number file k ds rs
+      → IsRun y number file k ds rs
       → PaintedBy y (standing y.table file (history_of ds rs)) place r
   -- by whatever calls and answers, as long as every loan granted is of a piece that exists
   pub pieces : All (OfPiece y.table) (lent y.table (history_of ds rs))

@@ -2,7 +2,6 @@
 #![tactic(auto)]
 
 ghost use Rattle.std.specs.Prelude.{◌≡◌, ◌<◌, min, map, length, take, drop, Some};
-ghost use Rattle.loans.specs.Jobs.{book_of};
 ghost use Rattle.loans.specs.Strokes.{painting_of};
 ghost use Rattle.loans.specs.Rules.{deed_of};
 ghost use Rattle.loans.specs.History.{history_of};
@@ -61,7 +60,7 @@ fn reaches_over(area: Area, painting: Painting<'_>, place: u64) -> bool
 
 // The area of a piece of the job's file; nothing where no piece is named, or none exists.
 fn area_for(job: &Job, piece: Option<Piece>) -> Area
-    ensures { result ≡ area_for (book_of job.now).table piece }
+    ensures { result ≡ area_for job.now.layout.table piece }
 {
     piece
         .and_then(|named| job.where_is(named).ok())
@@ -112,7 +111,7 @@ impl History<'_> {
     fn painter_at(&self, job: &Job, position: usize, place: u64) -> Option<Painter>
         ensures { position < length self.now.calls.now
             → position < length self.now.answers.now
-            → result ≡ painter_at (book_of job.now).table
+            → result ≡ painter_at job.now.layout.table
             self.now.calls.now self.now.answers.now position place }
     {
         let Call::Paint(painting) = *self.calls.get(position)? else {
@@ -134,7 +133,7 @@ impl History<'_> {
 
     // Who laid the newest stroke that stands over the byte at a place.
     fn newest_painter(&self, job: &Job, place: u64) -> Option<Painter>
-        ensures { IsNewest (book_of job.now).table self.now.calls.now self.now.answers.now place
+        ensures { IsNewest job.now.layout.table self.now.calls.now self.now.answers.now place
             (min (length self.now.calls.now) (length self.now.answers.now)) result }
     {
         (0..self.count())
@@ -149,7 +148,7 @@ impl History<'_> {
 /// begins at the file's byte `first`.
 pub fn painter_of(job: &Job, calls: &[Call<'_>], answers: &[Answer], place: u64) -> Option<Painter>
     ensures traced { Traced job.now.layout (map deed_of calls.now) answers.now place result }
-    ensures exact { IsNewest (book_of job.now).table calls.now answers.now place
+    ensures exact { IsNewest job.now.layout.table calls.now answers.now place
         (min (length calls.now) (length answers.now)) result }
 {
     History { calls, answers }.newest_painter(job, place)

@@ -5,7 +5,6 @@ use Rattle.dds.specs.declared.piece.Piece.{Piece}
 use Rattle.dds.specs.Places.{WhoseIs}
 use Rattle.loans.specs.declared.call.Call.{Call}
 use Rattle.loans.specs.declared.job.Job.{Job}
-use Rattle.loans.specs.Jobs.{book_of}
 use Rattle.loans.specs.Rules.{deed_of}
 use Rattle.painters.specs.Tracing.{Traced, IsNewest}
 use Rattle.trace.specs.declared.changes.Change.{Change}
@@ -21,7 +20,7 @@ pub record TracedSo (job : Job) (calls : List Call) (answers : List (Result ℕ 
   -- who painted it, after a run of the calls
   pub painter : Traced job.layout (map deed_of calls) answers c.place t.painter
   -- and by whatever calls and answers
-  pub exact : IsNewest (book_of job).table calls answers c.place
+  pub exact : IsNewest job.layout.table calls answers c.place
       (min (length calls) (length answers)) t.painter
 
 -- refused where the layout refuses the place of the first byte
