@@ -6,6 +6,7 @@ use Rattle.dds.specs.declared.area.Area.{Area}
 use Rattle.dds.specs.declared.layout.Layout.{Layout}
 use Rattle.dds.specs.declared.piece.Piece.{Piece}
 use Rattle.dds.specs.declared.table.Table.{Table}
+use Rattle.dds.specs.Pieces.{piece_of}
 use Rattle.dds.specs.Places.{exists_in, area_in, AreaOf}
 use Rattle.loans.specs.declared.call.Call.{Call}
 use Rattle.painters.specs.declared.Painter.{Painter}
@@ -146,7 +147,7 @@ painter_by t pieces owes place d (Ok x) = None
 
 -- what is read where no call stands
 abbrev pub no_call : Call
-no_call = Call.Loan (record { element = 0; level = 0; slice = 0 }) 0
+no_call = Call.Loan (piece_of 0 0 0) 0
 
 -- what is read where no answer stands
 abbrev pub no_answer : Result ℕ Refusal
