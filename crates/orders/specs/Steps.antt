@@ -1,11 +1,11 @@
 -- How lines are answered one after the other: what the private functions of a day do. No public contract cites this.
-use Rattle.std.specs.Prelude.{◌≡◌, ℕ, List, ◌++◌, Some, None, Option, Err, Result}
+use Rattle.std.specs.Prelude.{◌≡◌, ℕ, List, length, ◌++◌, Some, None, Option, Ok, Err, Result}
 use Rattle.std.specs.List.{AllZip}
 use Rattle.refusal.specs.declared.Refusal.{Refusal}
 use Rattle.refusal.specs.declared.Refusal.TheVariants.{MalformedOrder}
 use Rattle.loans.specs.Strokes.{State}
 use Rattle.loans.specs.Rules.{Deed, answer_to, after, answers_to, after_all}
-use Rattle.orders.specs.Days.{Asks, answer_lines, calls_in, answers_in}
+use Rattle.orders.specs.Days.{DayInputs, MasterOpened, morning, Asks, answer_lines, calls_in, answers_in}
 
 -- what is answered to a line
 abbrev pub answer_for : State → Option Deed → Result ℕ Refusal
@@ -30,3 +30,10 @@ pub record LinesAnswered (lines : List (List ℕ)) (s : State) (old : List ℕ) 
   pub asked : AllZip Asks lines wishes
   pub printed : new ≡ old ++ answer_lines (answers_in wishes (answers_to s (calls_in wishes)))
   pub left : t ≡ after_all s (calls_in wishes)
+
+-- a day begins: the texture was opened, in a job of number 1 that has no loans, with two shelves that hold nothing
+pub record Begun (g : DayInputs) (number : ℕ) (s : State) : Type 0 where
+  pub first : number ≡ 1
+  pub opened : MasterOpened g (Ok s.book.layout)
+  pub sized : length g.master ≡ s.book.layout.table.length
+  pub state : s ≡ morning s.book.layout g.master

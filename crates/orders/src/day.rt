@@ -6,7 +6,7 @@ ghost use Rattle.loans.specs.Scrapping.{AtHome};
 ghost use Rattle.orders.specs.Lines.{lines_of};
 ghost use Rattle.orders.specs.Replies.{reply_text, reply_to};
 ghost use Rattle.orders.specs.Days.{closing_reply, Closed, room_for, EndedAs, DayDone};
-ghost use Rattle.orders.specs.Steps.{LineAnswered, LinesAnswered};
+ghost use Rattle.orders.specs.Steps.{LineAnswered, LinesAnswered, Begun};
 
 use crate::lines::Lines;
 use crate::order::Order;
@@ -133,6 +133,30 @@ fn close(docket: Docket, job: &mut Job, file: &mut [u8], shelves: &mut Shelves<'
     Ending::Shipped
 }
 
+// A day within the limits, once the texture was opened in a job, with two shelves that hold nothing.
+fn day_on(
+    docket: Docket,
+    job: &mut Job,
+    master: &mut [u8],
+    shelves: &mut Shelves<'_>,
+    orders: &[u8],
+    printed: &mut Vec<u8>,
+) -> Ending
+    requires short { length orders.now ≤ 16384 }
+    requires room { vec_len printed.old + 6 * length orders.now ≤ vec_capacity printed.old }
+    requires begun { Begun
+        (record { master = master.old; orders = orders.now; before = printed.old.items })
+        docket.0 (state_of job.old master.old shelves.old) }
+    ensures ended { EndedAs
+        (record { master = master.old; orders = orders.now; before = printed.old.items })
+        result master.new printed.new.items }
+    ensures length { vec_len printed.new ≤ vec_len printed.old + 6 * length orders.now }
+    ensures capacity { vec_capacity printed.new ≡ vec_capacity printed.old }
+{
+    answer_all(job, master, shelves, orders, printed);
+    close(docket, job, master, shelves)
+}
+
 // A day within the limits.
 fn work(master: &mut [u8], orders: &[u8], printed: &mut Vec<u8>) -> Ending
     requires short { length orders.now ≤ 16384 }
@@ -148,10 +172,7 @@ fn work(master: &mut [u8], orders: &[u8], printed: &mut Vec<u8>) -> Ending
     let mut shelves = Shelves::of(Shelf::new(&mut marks), Shelf::new(&mut bytes));
     let mut job = Job::empty();
     match job.open(master, JOB_NUMBER, &BuiltInCodes) {
-        Ok(docket) => {
-            answer_all(&mut job, master, &mut shelves, orders, printed);
-            close(docket, &mut job, master, &mut shelves)
-        }
+        Ok(docket) => day_on(docket, &mut job, master, &mut shelves, orders, printed),
         Err(refusal) => Ending::Refused(refusal),
     }
 }
