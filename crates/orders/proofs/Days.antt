@@ -1,8 +1,7 @@
 -- A day on a texture that was opened.
-use Rattle.std.proofs.Common.{◌≡◌, ℕ, min, List, ◌++◌, length, Some, Ok, refl, sym, ap, ◌∙◌, subst}
+use Rattle.std.proofs.Common.{◌≡◌, ℕ, List, [], ◌++◌, length, Some, Ok, refl, sym, ap, ◌∙◌, subst}
 use Rattle.dds.specs.declared.layout.Layout.{Layout}
-use Rattle.shelf.specs.declared.Shelf.{Shelf}
-use Rattle.shelf.specs.Calls.{New}
+use Rattle.shelf.specs.Held.{Held}
 use Rattle.loans.specs.declared.mark.Mark.{Mark}
 use Rattle.loans.specs.Jobs.{Book, fresh_book}
 use Rattle.loans.specs.Stocks.{Stock, stock_on, empty_stock}
@@ -21,12 +20,10 @@ use Rattle.orders.specs.Days.{DayInputs, MasterOpened, morning, answer_lines, Cl
 use Rattle.orders.specs.Steps.{LinesAnswered}
 
 -- the program's job and shelves, just opened
-pub first_state : (g : DayInputs) (b : Book) (k : Stock) (marks : Shelf Mark) (bytes : Shelf ℕ) (lent_marks : List Mark) (lent_bytes : List ℕ)
-    → b ≡ fresh_book b.layout (Some 1) → k ≡ stock_on marks bytes → New lent_marks marks → New lent_bytes bytes → length lent_marks ≡ 64 → length lent_bytes ≡ 4096
-    → state_of b g.master k ≡ morning b.layout g.master
-first_state g b k marks bytes lent_marks lent_bytes book stock m n few_marks few_bytes =
-    opened_is b.layout 1 g.master book (stock ∙ is_empty_stock (stock_on marks bytes) m.holds n.holds
-    (m.capacity ∙ ap (λ i. min i 1073741824) few_marks) (n.capacity ∙ ap (λ i. min i 1073741824) few_bytes))
+pub first_state : (g : DayInputs) (b : Book) (k : Stock) (marks : Held Mark) (bytes : Held ℕ) → b ≡ fresh_book b.layout (Some 1) → k ≡ stock_on marks bytes
+    → marks.items ≡ [] → bytes.items ≡ [] → marks.most ≡ 64 → bytes.most ≡ 4096 → state_of b g.master k ≡ morning b.layout g.master
+first_state g b k marks bytes book stock no_marks no_bytes most_marks most_bytes =
+    opened_is b.layout 1 g.master book (stock ∙ is_empty_stock (stock_on marks bytes) no_marks no_bytes most_marks most_bytes)
 
 module _ (g : DayInputs) (y : Layout) (opened : MasterOpened g (Ok y)) (sized : length g.master ≡ y.table.length) where
   abbrev first : State
