@@ -10,4 +10,4 @@ returns-clause-room c = called_room (deed_of c.args.call) _ _ _ _ _ _ _ c.call-a
 
 pub returns-clause-limit : goal.returns-clause-limit
 returns-clause-limit c =
-    called_within (deed_of c.args.call) _ _ _ _ _ _ _ c.call-answer.ensures.rule (subst Orderly c.self.view_is (orderly _ _ c.self.invariant)) c.marks.ensures.fits.marks
+    called_within (deed_of c.args.call) _ _ _ _ _ _ _ c.call-answer.ensures.rule (subst Orderly c.self.view_is (orderly _ _ c.self.invariant)) c.marks-marks.ensures.fits.marks
