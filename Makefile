@@ -1,25 +1,29 @@
 # What the repository does: `make demo` shows it on sample data, `make test` is the gate, `make bench` measures it,
 # `make robust` tries the programs where something is wrong around them, `make memory` makes each allocation of a day and a run fail,
 # `make planted` tries the planted bugs, which the proofs must refuse, `make fmt` formats the sources.
-.PHONY: demo test bench robust memory planted fmt
+.PHONY: demo test docs bench robust memory planted fmt
+
+# One build at a time: they share a log.
+.NOTPARALLEL:
 
 SAMPLES = crates/samples/data
 
-demo: target/bin/cuivakko target/bin/pieces target/bin/retouch
+demo:
+	@tools/build.py cuivakko pieces retouch
 	@tools/show_day.sh target/bin/cuivakko crates/cuivakko/data/master.dds crates/cuivakko/stdin
 	@tools/show_day.sh target/bin/cuivakko crates/busy_day/data/master.dds crates/busy_day/data/orders.txt
 	@for file in $(SAMPLES)/*.dds; do echo "$$file"; target/bin/pieces $$file || exit 1; done
 	@target/bin/retouch $(SAMPLES)/cube-rgb.dds
 
-# rt proves a program before it links it, and runs it then: without input, and some asked for their usage, each ends at once.
-target/bin/pieces target/bin/retouch: ASKED = -- --help
 target/bin/%: crates.txt $(shell find crates -path '*/out' -prune -o \( -name '*.rt' -o -name '*.antt' \) -print)
-	cd crates/$* && rt run $(ASKED) </dev/null >/dev/null
-	@mkdir -p target/bin
-	cp crates/$*/out/$* $@
+	@tools/build.py $*
 
 test:
 	.ci/run
+
+# The code in README.md stands in crates/example, and what the documents name is there.
+docs:
+	tools/check_docs.py
 
 # The ratios of its costs to those of bench/, the same work in plain Rust.
 bench: target/bin/bench

@@ -22,13 +22,11 @@ const PAINTED: &[u8; 152] =
 
 // Runs days one after the other in the working directory, and checks after each what shipped.dds holds, and that nothing else is left.
 #[test]
+#[rattlefmt::skip]
 fn shipped_files(rt: HostRuntime) -> Result<(), Fail> {
     fs::write(&rt, MASTER, TEXTURE)?;
     let days: [(&[u8], &[u8]); 4] = [
-        (
-            b"L 0 1 0 7\nL 0 1 0 8\nP 1 7 0 6 aabb\nP 1 7 0 7 aabb\nU 1 7\nK 1\nU 1 7\n",
-            TEXTURE,
-        ),
+        (b"L 0 1 0 7\nL 0 1 0 8\nP 1 7 0 6 aabb\nP 1 7 0 7 aabb\nU 1 7\nK 1\nU 1 7\n", TEXTURE),
         (b"L 0 1 0 7\nP 1 7 0 6 aabb\nK 1\n", PAINTED),
         (b"L 0 1 0 7\nP 1 7 0 6 ccdd\n", PAINTED),
         (b"", TEXTURE),

@@ -4,7 +4,9 @@ ghost use Rattle.std.specs.Prelude.{◌≡◌, length, take};
 /// A file's head, which is its first 148 bytes or the whole of a shorter one, and the file's length.
 #[derive(Clone, Copy)]
 pub struct FileHead<'a> {
+    /// the first 148 bytes, or all of a shorter file; a byte that is missing counts as 0
     pub bytes: &'a [u8],
+    /// the length of the whole file, in bytes
     pub length: u64,
 }
 

@@ -6,11 +6,17 @@ ghost use Rattle.dds.specs.LevelEnds.{level_end};
 /// element, counted in bytes from the element's first. The default, which is all zeros, stands in a table behind its last level.
 #[derive(Clone, Copy, PartialEq, Eq, Debug, Default)]
 pub struct Level {
+    /// of each image, in pixels
     pub width: u32,
+    /// of each image, in pixels
     pub height: u32,
+    /// how many images it has in an element: more than one only in a volume
     pub slices: u32,
+    /// how many bytes a row of an image has
     pub row_bytes: u32,
+    /// how many rows an image has
     pub rows: u32,
+    /// where it begins in its element, in bytes
     pub begin: u64,
 }
 

@@ -10,6 +10,7 @@ use crate::tables::{CodeRow, format_in};
 
 /// A table of the codes other than DX10, known by the name that it has for each code. Asking changes nothing in it.
 pub trait CodeTable: Copy {
+    /// the name that the table has for a code, if any
     ghost name_at: { Self → ℕ → Option FormatName };
 
     /// The format that a code names, if any.

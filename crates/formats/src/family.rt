@@ -13,7 +13,9 @@ use crate::kinds::{Block, Format, Linear, Paired};
 /// Of an image with a side out of range it is the default: nothing.
 #[derive(Clone, Copy, PartialEq, Eq, Debug, Default)]
 pub struct Extent {
+    /// how many bytes a row has
     pub row_bytes: u32,
+    /// how many rows there are
     pub rows: u32,
 }
 
@@ -21,14 +23,17 @@ pub struct Extent {
 /// Whoever adds one shows that its answers are these two functions, and that the law holds. Asking changes nothing in it: it can
 /// be copied, so there is no cell in it that could remember a question.
 pub trait Family: Copy {
+    /// the bytes of a row, by the width and the height in pixels
     ghost row_bytes: { Self → ℕ → ℕ → ℕ };
 
+    /// the number of rows, by the width and the height in pixels
     ghost rows: { Self → ℕ → ℕ → ℕ };
 
     /// Both functions at an image's sides, in pixels; 0 and 0 where a side is not 1 to 16,384.
     fn ask(&self, width: u32, height: u32) -> Extent
         ensures { result ≡ extent_of (row_bytes self.now) (rows self.now) width height };
 
+    /// the law: where both sides are 1 to 16,384, a row has 1 to 16 × width bytes, and there are 1 to height rows
     ghost bounded: { (family : Self) (width height : ℕ)
         → 1 ≤ width → width ≤ 16384 → 1 ≤ height → height ≤ 16384
         → Bounded (row_bytes family) (rows family) width height };

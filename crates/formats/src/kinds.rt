@@ -24,8 +24,11 @@ pub struct Block {
 /// A pixel format: one of the three, with a size that is allowed for it.
 #[derive(Clone, Copy)]
 pub enum Format {
+    /// pixel after pixel
     Linear(Linear),
+    /// two neighbouring pixels together
     Paired,
+    /// blocks of four by four pixels
     Block(Block),
 }
 
@@ -33,8 +36,11 @@ pub enum Format {
 /// It may say a size that no format has.
 #[derive(Clone, Copy, PartialEq, Eq, Debug)]
 pub enum FormatName {
+    /// pixel after pixel, with the bits of a pixel
     Linear(u32),
+    /// two neighbouring pixels together
     Paired,
+    /// blocks of four by four pixels, with the bytes of a block
     Block(u32),
 }
 
@@ -52,6 +58,7 @@ impl Linear {
         }
     }
 
+    /// How many bits a pixel has: 1 to 128.
     pub fn bits(self) -> u32
         ensures value { result ≡ self.bits }
         ensures bound { (1 ≤ result) × (result ≤ 128) }
@@ -73,6 +80,7 @@ impl Block {
         }
     }
 
+    /// How many bytes a block has: 8 or 16.
     pub fn bytes(self) -> u32
         ensures value { result ≡ self.bytes }
         ensures bound { (8 ≤ result) × (result ≤ 16) }

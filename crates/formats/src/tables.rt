@@ -10,23 +10,30 @@ use crate::kinds::{Format, FormatName};
 /// The codes from `first` to `last`, both included, name one format.
 #[derive(Clone, Copy)]
 pub struct CodeRange {
+    /// the lowest of the codes
     pub first: u32,
+    /// the highest of the codes
     pub last: u32,
+    /// the format that they name
     pub name: FormatName,
 }
 
 /// One code names a format.
 #[derive(Clone, Copy)]
 pub struct CodeRow {
+    /// the code
     pub code: u32,
+    /// the format that it names
     pub name: FormatName,
 }
 
 /// A line of a table: it gives a range of codes a format. `Into<CodeRange>` would not do: its ghost member is a relation, and what a
 /// whole table means is a function of its lines.
 pub trait Line {
+    /// the range of codes that it is read as
     ghost means: { Self → CodeRange };
 
+    /// The range of codes that it is read as.
     fn range(&self) -> CodeRange
         ensures { result ≡ means self.now };
 }

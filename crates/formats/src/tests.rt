@@ -66,6 +66,7 @@ fn every_other_code_and_near_misses(rt: HostRuntime) {
 }
 
 #[test]
+#[rattlefmt::skip]
 fn bit_counts(rt: HostRuntime) {
     for flags in [0x2, 0x40, 0x41, 0x200, 0x2_0000, 0x2_0001, 0xffff_ffff] {
         for bits in [8, 16, 24, 32] {
@@ -78,19 +79,7 @@ fn bit_counts(rt: HostRuntime) {
             assert_eq!(rt; name_of(bit_count_format(flags, bits)), None);
         }
     }
-    for flags in [
-        0,
-        0x1,
-        0x4,
-        0x8,
-        0x20,
-        0x80,
-        0x100,
-        0x400,
-        0x1_0000,
-        0x4_0000,
-        0xfffd_fdbd,
-    ] {
+    for flags in [0, 0x1, 0x4, 0x8, 0x20, 0x80, 0x100, 0x400, 0x1_0000, 0x4_0000, 0xfffd_fdbd] {
         assert_eq!(rt; name_of(bit_count_format(flags, 32)), None);
     }
 }

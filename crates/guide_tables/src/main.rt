@@ -11,6 +11,7 @@ use std::alloc::{AllocError, Global};
 use std::io;
 
 // A file of the guide: what its header says, and its length.
+#[derive(Clone, Copy)]
 struct Sample {
     name: &'static str,
     width: u32,
@@ -38,91 +39,42 @@ const CUBE: u32 = 0xfe00;
 
 const VOLUME: u32 = 0x20_0000;
 
+// Pixels of 24 bits; what a sample does not say is 0.
+const PIXELS: Sample = Sample {
+    name: "",
+    width: 0,
+    height: 0,
+    depth: 0,
+    levels: 0,
+    pixel_flags: RGB,
+    code: 0,
+    bit_count: 24,
+    caps2: 0,
+    dxgi_code: 0,
+    misc: 0,
+    length: 0,
+};
+
+const BLOCKS: Sample = Sample {
+    pixel_flags: FOURCC,
+    code: DXT1,
+    bit_count: 0,
+    ..PIXELS
+};
+
+const EXTENDED: Sample = Sample {
+    code: DX10,
+    ..BLOCKS
+};
+
+#[rattlefmt::skip]
 const SAMPLES: [Sample; 6] = [
-    Sample {
-        name: "256 by 256 R8G8B8",
-        width: 256,
-        height: 256,
-        depth: 0,
-        levels: 9,
-        pixel_flags: RGB,
-        code: 0,
-        bit_count: 24,
-        caps2: 0,
-        dxgi_code: 0,
-        misc: 0,
-        length: 262271,
-    },
-    Sample {
-        name: "256 by 64 DXT1",
-        width: 256,
-        height: 64,
-        depth: 0,
-        levels: 9,
-        pixel_flags: FOURCC,
-        code: DXT1,
-        bit_count: 0,
-        caps2: 0,
-        dxgi_code: 0,
-        misc: 0,
-        length: 11080,
-    },
-    Sample {
-        name: "256 by 64 BC3",
-        width: 256,
-        height: 64,
-        depth: 0,
-        levels: 9,
-        pixel_flags: FOURCC,
-        code: DX10,
-        bit_count: 0,
-        caps2: 0,
-        dxgi_code: 77,
-        misc: 0,
-        length: 22052,
-    },
-    Sample {
-        name: "256 by 256 BC6H cube",
-        width: 256,
-        height: 256,
-        depth: 0,
-        levels: 9,
-        pixel_flags: FOURCC,
-        code: DX10,
-        bit_count: 0,
-        caps2: 0,
-        dxgi_code: 95,
-        misc: 0x4,
-        length: 524596,
-    },
-    Sample {
-        name: "64 by 64 by 4 volume, 24 bits",
-        width: 64,
-        height: 64,
-        depth: 4,
-        levels: 7,
-        pixel_flags: RGB,
-        code: 0,
-        bit_count: 24,
-        caps2: VOLUME,
-        dxgi_code: 0,
-        misc: 0,
-        length: 56447,
-    },
-    Sample {
-        name: "256 by 256 DXT1 cube",
-        width: 256,
-        height: 256,
-        depth: 0,
-        levels: 9,
-        pixel_flags: FOURCC,
-        code: DXT1,
-        bit_count: 0,
-        caps2: CUBE,
-        dxgi_code: 0,
-        misc: 0,
-        length: 262352,
-    },
+    Sample { name: "256 by 256 R8G8B8", width: 256, height: 256, levels: 9, length: 262271, ..PIXELS },
+    Sample { name: "256 by 64 DXT1", width: 256, height: 64, levels: 9, length: 11080, ..BLOCKS },
+    Sample { name: "256 by 64 BC3", width: 256, height: 64, levels: 9, dxgi_code: 77, length: 22052, ..EXTENDED },
+    Sample { name: "256 by 256 BC6H cube", width: 256, height: 256, levels: 9, dxgi_code: 95, misc: 0x4, length: 524596, ..EXTENDED },
+    Sample { name: "64 by 64 by 4 volume, 24 bits", width: 64, height: 64, depth: 4, levels: 7, caps2: VOLUME, length: 56447, ..PIXELS },
+    Sample { name: "256 by 256 DXT1 cube", width: 256, height: 256, levels: 9, caps2: CUBE, length: 262352, ..BLOCKS },
 ];
 
 // The header's words in the order of the file, those that do not count as 0.

@@ -11,11 +11,17 @@ use refusal::Refusal;
 /// number of levels.
 #[derive(Clone, Copy, PartialEq, Eq, Debug)]
 pub struct Facts {
+    /// Where the header says the format.
     pub source: FormatSource,
+    /// The format, with its size.
     pub format: FormatName,
+    /// The shape, with the number of elements or the depth.
     pub shape: Shape,
+    /// The width of the first level, in pixels.
     pub width: u32,
+    /// The height of the first level, in pixels.
     pub height: u32,
+    /// How many levels each element has.
     pub levels: u32,
 }
 

@@ -9,9 +9,13 @@ use refusal::Refusal;
 /// A line of the list of pieces: the piece, the sides of its level in pixels, and where it stands in the file.
 #[derive(Clone, Copy, PartialEq, Eq, Debug)]
 pub struct Row {
+    /// The piece.
     pub piece: Piece,
+    /// The width of its level, in pixels.
     pub width: u32,
+    /// The height of its level, in pixels.
     pub height: u32,
+    /// Where it stands in the file.
     pub area: Area,
 }
 

@@ -97,22 +97,11 @@ fn tells(rt: &(impl Abort + AllocGlobal), fields: Fields, line: &str) -> Result<
 }
 
 #[test]
+#[rattlefmt::skip]
 fn lines_of_facts(rt: HostRuntime) -> Result<(), Fail> {
-    tells(
-        &rt,
-        PLAIN,
-        "DXT1, block of 8 bytes, flat array of 1, 16 x 8, levels 5",
-    )?;
-    tells(
-        &rt,
-        EXTENDED,
-        "BC7_UNORM_SRGB (99), block of 16 bytes, flat array of 2, 16 x 8, levels 5",
-    )?;
-    tells(
-        &rt,
-        Fields { code: 36, ..PLAIN },
-        "code 36, linear of 64 bits, flat array of 1, 16 x 8, levels 5",
-    )
+    tells(&rt, PLAIN, "DXT1, block of 8 bytes, flat array of 1, 16 x 8, levels 5")?;
+    tells(&rt, EXTENDED, "BC7_UNORM_SRGB (99), block of 16 bytes, flat array of 2, 16 x 8, levels 5")?;
+    tells(&rt, Fields { code: 36, ..PLAIN }, "code 36, linear of 64 bits, flat array of 1, 16 x 8, levels 5")
 }
 
 #[test]
@@ -147,6 +136,7 @@ fn kinds_of_plain_pixels(rt: HostRuntime) -> Result<(), Fail> {
 }
 
 #[test]
+#[rattlefmt::skip]
 fn sources_as_text(rt: HostRuntime) -> Result<(), Fail> {
     for (source, text) in [
         (FormatSource::Code(0x3259_5559), "YUY2"),
@@ -157,13 +147,7 @@ fn sources_as_text(rt: HostRuntime) -> Result<(), Fail> {
         (FormatSource::Dxgi(71), "BC1_UNORM (71)"),
         (FormatSource::Dxgi(100), "DXGI code 100"),
         (FormatSource::Dxgi(115), "B4G4R4A4_UNORM (115)"),
-        (
-            FormatSource::BitCount {
-                kind: PixelKind::Rgb,
-                bits: 24,
-            },
-            "RGB 24 bits",
-        ),
+        (FormatSource::BitCount { kind: PixelKind::Rgb, bits: 24 }, "RGB 24 bits"),
     ] {
         assert_eq!(rt; source.to_string(rt.alloc())?.as_str(), text);
     }
@@ -172,56 +156,15 @@ fn sources_as_text(rt: HostRuntime) -> Result<(), Fail> {
 
 // Where two refusals apply, the lower number comes first.
 #[test]
+#[rattlefmt::skip]
 fn refused_in_order(rt: HostRuntime) -> Result<(), Fail> {
     for (fields, refusal) in [
-        (
-            Fields {
-                code: 1,
-                caps2: CUBE_OF_ONE_FACE,
-                ..PLAIN
-            },
-            Refusal::UnknownFormat,
-        ),
-        (
-            Fields {
-                dxgi_code: 100,
-                dimension: 5,
-                ..EXTENDED
-            },
-            Refusal::UnknownFormat,
-        ),
-        (
-            Fields {
-                code: 1,
-                width: 0,
-                ..PLAIN
-            },
-            Refusal::UnknownFormat,
-        ),
-        (
-            Fields {
-                caps2: CUBE_OF_ONE_FACE,
-                width: 0,
-                ..PLAIN
-            },
-            Refusal::NoShape,
-        ),
-        (
-            Fields {
-                caps2: CUBE_OF_ONE_FACE,
-                levels: 6,
-                ..PLAIN
-            },
-            Refusal::NoShape,
-        ),
-        (
-            Fields {
-                width: 16_385,
-                levels: 16,
-                ..PLAIN
-            },
-            Refusal::OutOfRange,
-        ),
+        (Fields { code: 1, caps2: CUBE_OF_ONE_FACE, ..PLAIN }, Refusal::UnknownFormat),
+        (Fields { dxgi_code: 100, dimension: 5, ..EXTENDED }, Refusal::UnknownFormat),
+        (Fields { code: 1, width: 0, ..PLAIN }, Refusal::UnknownFormat),
+        (Fields { caps2: CUBE_OF_ONE_FACE, width: 0, ..PLAIN }, Refusal::NoShape),
+        (Fields { caps2: CUBE_OF_ONE_FACE, levels: 6, ..PLAIN }, Refusal::NoShape),
+        (Fields { width: 16_385, levels: 16, ..PLAIN }, Refusal::OutOfRange),
         (Fields { levels: 6, ..PLAIN }, Refusal::TooManyLevels),
     ] {
         assert_eq!(rt; told(rt.alloc(), fields)?, Err(refusal));
@@ -230,49 +173,18 @@ fn refused_in_order(rt: HostRuntime) -> Result<(), Fail> {
 }
 
 #[test]
+#[rattlefmt::skip]
 fn rows_below_their_heading(rt: HostRuntime) -> Result<(), Fail> {
-    let small = Row {
-        piece: Piece {
-            element: 1,
-            level: 2,
-            slice: 3,
-        },
-        width: 4,
-        height: 5,
-        area: Area {
-            place: 6,
-            length: 7,
-            row_bytes: 8,
-            rows: 9,
-        },
-    };
-    let large = Row {
-        piece: Piece {
-            element: 2_047,
-            level: 14,
-            slice: 2_046,
-        },
-        width: 16_384,
-        height: 16_383,
-        area: Area {
-            place: 1_073_741_824,
-            length: 1_073_741_823,
-            row_bytes: 262_144,
-            rows: 16_382,
-        },
-    };
-    assert_eq!(rt;
-        Row::heading(),
-        "element level slice width height      place     length row-bytes  rows"
-    );
-    assert_eq!(rt;
-        small.to_string(rt.alloc())?.as_str(),
-        "      1     2     3     4      5          6          7         8     9"
-    );
-    assert_eq!(rt;
-        large.to_string(rt.alloc())?.as_str(),
-        "   2047    14  2046 16384  16383 1073741824 1073741823    262144 16382"
-    );
+    let piece = Piece { element: 1, level: 2, slice: 3 };
+    let area = Area { place: 6, length: 7, row_bytes: 8, rows: 9 };
+    let small = Row { piece, width: 4, height: 5, area };
+    let piece = Piece { element: 2_047, level: 14, slice: 2_046 };
+    let area = Area { place: 1_073_741_824, length: 1_073_741_823, row_bytes: 262_144, rows: 16_382 };
+    let large = Row { piece, width: 16_384, height: 16_383, area };
+    let (small, large) = (small.to_string(rt.alloc())?, large.to_string(rt.alloc())?);
+    assert_eq!(rt; Row::heading(), "element level slice width height      place     length row-bytes  rows");
+    assert_eq!(rt; small.as_str(), "      1     2     3     4      5          6          7         8     9");
+    assert_eq!(rt; large.as_str(), "   2047    14  2046 16384  16383 1073741824 1073741823    262144 16382");
     Ok(())
 }
 

@@ -17,6 +17,7 @@ use Rattle.loans.specs.Strokes.{counted_loan}
 use Rattle.loans.specs.Finding.{StandsAt}
 use Rattle.loans.specs.Writing.{kept_by, cancelled_by, ledger_ended, book_ended}
 use Rattle.loans.proofs.Counting.{rise_in, rise_from}
+use Rattle.loans.proofs.Marks.{marks_cons}
 use Rattle.loans.proofs.Recounting.{other_number}
 use Rattle.loans.proofs.Searches.{less_at}
 use Rattle.loans.proofs.Slots.{none_has}
@@ -25,14 +26,14 @@ use Rattle.loans.proofs.Sifted.{length_slid}
 -- the marks of other loans stay
 pub others_stay : (n m : ℕ) (ms : List Mark) → m ≢ n → marks_of m (less_all (of_loan n) ms) ≡ marks_of m ms
 others_stay n m [] ne = refl
-others_stay n m (x ∷ ms) ne = go (eqb n x.loan) refl (others_stay n m ms ne)
+others_stay n m (x ∷ ms) ne = go (eqb n x.loan) refl (others_stay n m ms ne) ∙ sym (marks_cons m x ms)
   where
     go : (b : Bool) → eqb n x.loan ≡ b → marks_of m (less_all (of_loan n) ms) ≡ marks_of m ms
         → marks_of m (cond (not b) (x ∷ less_all (of_loan n) ms) (less_all (of_loan n) ms)) ≡ cond (of_loan m x) (suc (marks_of m ms)) (marks_of m ms)
     go true e r =
         let other : m ≢ x.loan = λ f. ne (f ∙ sym (eqb-true n x.loan e)) in
         r ∙ sym (cond-false (of_loan m x) _ _ (ne_eqb m x.loan other))
-    go false e r = ap (λ y. cond (of_loan m x) (suc y) y) r
+    go false e r = marks_cons m x (less_all (of_loan n) ms) ∙ ap (λ y. cond (of_loan m x) (suc y) y) r
 
 -- those that stay are counted as before
 pub recount_less : (ls : List Loan) (n : ℕ) (ms : List Mark) → all_counted ls ms ≡ true

@@ -1,7 +1,8 @@
 -- The invariant of a history, over every loan ever granted, the loans out and the strokes that stand; and that each call keeps it.
-use Rattle.std.proofs.Common.{◌≡◌, ℕ, suc, ◌+◌, ◌*◌, ◌<◌, ◌≤◌, true, false, cond, not, eqb, ◌⊎◌, List, [], ◌∷◌, ◌++◌, reverse, length, sym, refl, ap, ◌∙◌, subst, inl, inr, mul-le-mul_right, suc-mul, mul_comm, arith, ◌||◌}
-use Rattle.std.specs.List.{AllByRecursion}
-use Rattle.std.proofs.ByRecursion.{All-weaker, All-push, all_kept_by}
+use Rattle.std.proofs.Common.{◌≡◌, ℕ, suc, Some, ◌+◌, ◌*◌, ◌<◌, ◌≤◌, true, false, cond, not, eqb, ◌⊎◌, List, [], ◌∷◌, ◌++◌, reverse, length, sym, refl, ap, ◌∙◌, subst, inl, inr, mul-le-mul_right, suc-mul, mul_comm, arith, ◌||◌}
+use Rattle.std.specs.List.{All, find}
+use Rattle.std.specs.Option.{unwrap_or}
+use Rattle.std.proofs.lemmas.List.Elements.{All-nil, All-cons, All-weaker, All-push, All-filter}
 use Rattle.std.proofs.lemmas.List.{length-append, length_push, flat_map_more}
 use Rattle.std.proofs.lemmas.List.FromFn.{length-map-range_with_len}
 use Rattle.std.proofs.lemmas.Bool.{eq-eqb, ne_eqb, and_parts}
@@ -11,6 +12,7 @@ use Rattle.dds.specs.declared.table.Table.{Table}
 use Rattle.dds.specs.Places.{area_in, exists_in}
 use Rattle.loans.specs.declared.ledger.Loan.{Loan}
 use Rattle.loans.specs.Lists.{less_first, less_all}
+use Rattle.loans.specs.Books.{no_loan}
 use Rattle.loans.specs.Lending.{granting, piece_is_out}
 use Rattle.loans.specs.Stocks.{is_number, is_out, the_loan}
 use Rattle.loans.specs.Strokes.{Painting}
@@ -52,15 +54,15 @@ pub record FitsShelves (mm mb : ℕ) (ss : List Stroke) : Type 0 where
 -- of the loans ever granted, the loans out and the strokes that stand
 pub record Good (t : Table) (mm mb : ℕ) (opening : List ℕ) (ls os : List Loan) (ss : List Stroke) : Type 0 where
   pub numbers : NumberedFromOne ls
-  pub pieces : AllByRecursion (OfPiece t) ls
-  pub lent : AllByRecursion (Lent t ls) os
+  pub pieces : All (OfPiece t) ls
+  pub lent : All (Lent t ls) os
   pub once : Rising os
   pub single : Single os
-  pub laid : AllByRecursion (Laid opening ls) ss
+  pub laid : All (Laid opening ls) ss
   pub sound : Sound opening os ss
   pub fits : FitsShelves mm mb (undoable os ss)
 
-pub all_sized : (opening : List ℕ) (ls : List Loan) (ss : List Stroke) → AllByRecursion (Laid opening ls) ss → AllByRecursion (Sized opening) ss
+pub all_sized : (opening : List ℕ) (ls : List Loan) (ss : List Stroke) → All (Laid opening ls) ss → All (Sized opening) ss
 all_sized opening ls ss h = All-weaker (Laid opening ls) (Sized opening) (λ s r. r.sized) ss h
 
 fits_fewer : (mm mb : ℕ) (v w : List Stroke) → Fewer w v → FitsShelves mm mb v → FitsShelves mm mb w
@@ -100,17 +102,17 @@ module _ (ls : List Loan) (numbers : NumberedFromOne ls) (new : Loan) (fresh : n
   other m h = let a = numbered_known ls m numbers h in ne_eqb m new.number (λ e. omega arith)
 
   loan_same : (m : ℕ) → is_out ls m ≡ true → the_loan (new ∷ ls) m ≡ the_loan ls m
-  loan_same m h = ap (λ b. cond b new (the_loan ls m)) (other m h)
+  loan_same m h = ap (λ b. unwrap_or (cond b (Some new) (find (is_number m) ls)) no_loan) (other m h)
 
   known_old : (m : ℕ) → is_out ls m ≡ true → is_out (new ∷ ls) m ≡ true
   known_old m h = elim (eqb m new.number) as (λ b. (b || is_out ls m) ≡ true) [ true ↦ refl | false ↦ h ]
 
-  pub rows_old : (ss : List Stroke) → AllByRecursion (InRow ls) ss → AllByRecursion (InRow (new ∷ ls)) ss
+  pub rows_old : (ss : List Stroke) → All (InRow ls) ss → All (InRow (new ∷ ls)) ss
   rows_old ss h = All-weaker (InRow ls) (InRow (new ∷ ls)) (λ s r. row_in ls (new ∷ ls) s (sym (loan_same s.painting.loan r.lent)) (known_old s.painting.loan r.lent) r) ss h
 
 module _ (t : Table) (mm mb : ℕ) (opening : List ℕ) where
   pub good_none : Good t mm mb opening [] [] []
-  good_none = record { numbers = tt; pieces = tt; lent = tt; once = tt; single = λ a b m. absurd m; laid = tt; sound = tt; fits = record { marks = omega arith; bytes = omega arith } }
+  good_none = record { numbers = tt; pieces = All-nil (OfPiece t); lent = All-nil (Lent t []); once = tt; single = λ a b m. absurd m; laid = All-nil (Laid opening []); sound = tt; fits = record { marks = omega arith; bytes = omega arith } }
 
   module _ (ls os : List Loan) (ss : List Stroke) (good : Good t mm mb opening ls os ss) where
     -- of a loan that is out
@@ -123,7 +125,7 @@ module _ (t : Table) (mm mb : ℕ) (opening : List ℕ) where
     pub loan_known : (n : ℕ) → is_out os n ≡ true → the_loan ls n ≡ the_loan os n
     loan_known n h = ap (the_loan ls) (sym (the_out os n h).1) ∙ (out_lent n h).traced
 
-    pub all_even : AllByRecursion Even (undoable os ss)
+    pub all_even : All Even (undoable os ss)
     all_even = undoable_all os Even ss (All-weaker (Laid opening ls) Even (λ s r. r.sized.0) ss good.laid)
 
     -- no byte lies in the spans of two loans out
@@ -155,7 +157,7 @@ module _ (t : Table) (mm mb : ℕ) (opening : List ℕ) where
       lent_new : Lent t (new ∷ ls) new
       lent_new =
           let self = eq-eqb new.number new.number refl in
-          record { known = rw self; of_piece = (there, refl); traced = ap (λ b. cond b new (the_loan ls new.number)) self }
+          record { known = rw self; of_piece = (there, refl); traced = ap (λ b. unwrap_or (cond b (Some new) (find (is_number new.number) ls)) no_loan) self }
 
       laid_old : (s : Stroke) → Laid opening ls s → Laid opening (new ∷ ls) s
       laid_old s r =
@@ -181,7 +183,7 @@ module _ (t : Table) (mm mb : ℕ) (opening : List ℕ) where
       pub good_lent : Good t mm mb opening (new ∷ ls) (os ++ new ∷ []) ss
       good_lent = record {
         numbers = (refl, good.numbers);
-        pieces = ((there, refl), good.pieces);
+        pieces = All-cons (OfPiece t) new ls (there, refl) good.pieces;
         lent = All-push (Lent t (new ∷ ls)) os new (All-weaker (Lent t ls) (Lent t (new ∷ ls)) lent_old os good.lent) lent_new;
         once = rising_push os new good.once (All-weaker (Lent t ls) (λ (o : Loan). o.number < length ls + 1) (λ o r. let a = numbered_known ls o.number good.numbers r.known in omega arith) os good.lent);
         single = single_loan;
@@ -268,7 +270,7 @@ module _ (t : Table) (mm mb : ℕ) (opening : List ℕ) where
             lent = good.lent;
             once = good.once;
             single = good.single;
-            laid = (laying_laid, good.laid);
+            laid = All-cons (Laid opening ls) stroke ss laying_laid good.laid;
             sound = (λ o. refl, All-weaker (Laid opening ls) (Spares os stroke) spares ss good.laid, good.sound);
             fits = subst (FitsShelves mm mb) (sym (undoable_cons os stroke ss out)) (record { marks = omega arith; bytes = omega arith });
           }
@@ -291,8 +293,8 @@ module _ (t : Table) (mm mb : ℕ) (opening : List ℕ) where
       still_out : (m : ℕ) → is_out (less_all (is_number n) os) m ≡ true → is_out os m ≡ true
       still_out m h = (and_parts _ _ (sym (out_less os n m) ∙ h)).0
 
-      lent_end : AllByRecursion (Lent t ls) (less_all (is_number n) os)
-      lent_end = all_kept_by (λ o. not (is_number n o)) (Lent t ls) os good.lent
+      lent_end : All (Lent t ls) (less_all (is_number n) os)
+      lent_end = All-filter (λ o. not (is_number n o)) (Lent t ls) os good.lent
 
       single_end : Single (less_all (is_number n) os)
       single_end a b u v = good.single a b (among_kept_by _ os a u).0 (among_kept_by _ os b v).0
@@ -319,7 +321,7 @@ module _ (t : Table) (mm mb : ℕ) (opening : List ℕ) where
         lent = lent_end;
         once = rising_kept (λ o. not (is_number n o)) os good.once;
         single = single_end;
-        laid = all_kept_by (λ s. not (stroke_of n s)) (Laid opening ls) ss good.laid;
+        laid = All-filter (λ s. not (stroke_of n s)) (Laid opening ls) ss good.laid;
         sound = sound_fewer opening os _ _ (all_of _ (λ s. still_out s.painting.loan) (less_all (stroke_of n) ss)) (cancel_file os opening n out _ ss refl good.sound (all_sized opening ls ss good.laid)).1;
         fits = subst (FitsShelves mm mb) (sym (undoable_cancelled os n ss)) fits_end;
       }

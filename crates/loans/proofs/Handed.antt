@@ -1,6 +1,7 @@
 -- Loans that were handed in stay so.
 use Rattle.std.proofs.Common.{◌≡◌, ℕ, suc, ◌+◌, ◌<◌, ◌≤◌, Bool, true, false, cond, not, eqb, List, [], ◌∷◌, map, length, get_or, Some, None, filter, Option, sym, refl, ap, ◌∙◌, subst, arith, ◌||◌}
-use Rattle.std.specs.List.{list_any, AllByRecursion}
+use Rattle.std.specs.List.{list_any, All}
+use Rattle.std.proofs.lemmas.List.Elements.{All-from_get_or}
 use Rattle.std.proofs.lemmas.Bool.{true≢false, false≢true, not-false, eqb-true, eq-eqb, ne_eqb}
 use Rattle.refusal.specs.declared.Refusal.{Refusal}
 use Rattle.refusal.specs.declared.Refusal.TheVariants.{OtherLength, LoanNotOut}
@@ -10,8 +11,8 @@ use Rattle.loans.specs.Lists.{less_all}
 use Rattle.loans.specs.Books.{no_loan}
 use Rattle.loans.specs.Jobs.{Book, Orderly}
 use Rattle.loans.specs.Stocks.{Stock, is_number, is_out, the_loan}
-use Rattle.loans.specs.Strokes.{State, state_of, counted_loan, is_other_length}
-use Rattle.loans.specs.Ending.{kept_book, cancelled}
+use Rattle.loans.specs.Strokes.{State, state_of, counted_loan, is_other_length, painted_stock, undone_stock}
+use Rattle.loans.specs.Ending.{kept_book, cancelled, stock_without}
 use Rattle.loans.specs.Rules.{Deed, call_refusal, carried_out, left, after}
 use Rattle.loans.specs.Rules.Deed.{lend, paint, undo, keep, cancel}
 use Rattle.loans.specs.Calls.{Carried}
@@ -51,10 +52,10 @@ gone_carried n s g (lend p who) =
       not_out = some_of_push (is_number n) s.book.outs _ (ne_eqb n (s.book.granted + 1) (λ e. omega (arith, g.given))) ∙ g.not_out;
       given = omega (arith, g.given);
     }
-gone_carried n s g (paint p) = record { not_out = counted_out n _ s.book.outs ∙ g.not_out; given = g.given }
-gone_carried n s g (undo m who) = record { not_out = counted_out n _ s.book.outs ∙ g.not_out; given = g.given }
-gone_carried n s g (keep m) = record { not_out = without_out n _ s.book.outs m g.not_out; given = g.given }
-gone_carried n s g (cancel m) = record { not_out = without_out n _ s.book.outs m g.not_out; given = g.given }
+gone_carried n s g (paint p) = record { not_out = counted_out n (painted_stock s p).marks s.book.outs ∙ g.not_out; given = g.given }
+gone_carried n s g (undo m who) = record { not_out = counted_out n (undone_stock s.stock m).marks s.book.outs ∙ g.not_out; given = g.given }
+gone_carried n s g (keep m) = record { not_out = without_out n (stock_without s.stock m).marks s.book.outs m g.not_out; given = g.given }
+gone_carried n s g (cancel m) = record { not_out = without_out n (stock_without s.stock m).marks s.book.outs m g.not_out; given = g.given }
 
 gone_after : (n : ℕ) (s : State) → Gone n s.book → (d : Deed) → Gone n (after s d).book
 gone_after n s g d = left_either (λ (x : State). Gone n x.book) (call_refusal s d) s (carried_out s d) g (gone_carried n s g d)
@@ -100,7 +101,7 @@ handed_in b n out given xs f k d h =
 
 -- the numbers of the loans out were given
 abbrev pub NumbersGiven : Book → Type 0
-NumbersGiven b = AllByRecursion (λ (l : Loan). l.number ≤ b.granted) b.outs
+NumbersGiven b = All (λ (l : Loan). l.number ≤ b.granted) b.outs
 
 given_out : (b : Book) (n : ℕ) → NumbersGiven b → is_out b.outs n ≡ true → n ≤ b.granted
 given_out b n g out =
@@ -112,18 +113,15 @@ ended_out : (n : ℕ) (ms : List Mark) (ls : List Loan) → is_out (map (counted
 ended_out n ms ls = counted_out n ms (less_all (is_number n) ls) ∙ some_of_none (is_number n) (less_all (is_number n) ls) (none_less_all (is_number n) ls)
 
 pub kept_handed_in : (b : Book) (k : Stock) (n : ℕ) → NumbersGiven b → is_out b.outs n ≡ true → HandedIn n (kept_book b k n)
-kept_handed_in b k n g out = handed_in (kept_book b k n) n (ended_out n _ b.outs) (given_out b n g out)
+kept_handed_in b k n g out = handed_in (kept_book b k n) n (ended_out n (stock_without k n).marks b.outs) (given_out b n g out)
 
 pub cancelled_handed_in : (s : State) (n : ℕ) → NumbersGiven s.book → is_out s.book.outs n ≡ true → HandedIn n (cancelled s n).book
-cancelled_handed_in s n g out = handed_in (cancelled s n).book n (ended_out n _ s.book.outs) (given_out s.book n g out)
-
-all_at : {A : Type 0} (P : A → Type 0) (d : A) (xs : List A) → ((k : ℕ) → k < length xs → P (get_or xs k d)) → AllByRecursion P xs
-all_at P d [] h = tt
-all_at P d (x ∷ xs) h = (h 0 (omega arith), all_at P d xs (λ k i. h (suc k) (omega arith)))
+cancelled_handed_in s n g out =
+    handed_in (cancelled s n).book n (ended_out n (stock_without s.stock n).marks s.book.outs) (given_out s.book n g out)
 
 -- so it is of every job
 book_given : (b : Book) → Orderly b → NumbersGiven b
-book_given b o = all_at (λ (l : Loan). l.number ≤ b.granted) no_loan b.outs o.given
+book_given b o = All-from_get_or (λ (l : Loan). l.number ≤ b.granted) b.outs no_loan o.given
 
 -- a job after a keep or a cancel that was carried out
 pub kept_handed : (b : Book) (f : List ℕ) (k : Stock) (n a : ℕ) (t : State) → Orderly b → Carried (keep n) (state_of b f k) a t → HandedIn n t.book

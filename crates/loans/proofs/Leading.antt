@@ -7,7 +7,7 @@ use Rattle.loans.specs.declared.mark.Mark.{Mark}
 use Rattle.loans.specs.Stocks.{of_loan, lengths}
 use Rattle.loans.specs.Sifting.{Leads}
 use Rattle.loans.specs.Taking.{no_mark}
-use Rattle.loans.proofs.Newest.{lengths_append}
+use Rattle.loans.proofs.Marks.{lengths_append}
 use Rattle.loans.proofs.Searches.{some_append}
 
 -- so many marks were passed, with so many bytes, and none is the loan's

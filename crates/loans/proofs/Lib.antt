@@ -1,4 +1,5 @@
 mod Counting
+mod Marks
 mod Slots
 mod Tallying
 mod Owning
@@ -15,7 +16,7 @@ mod Shelved
 pub mod Outs
 mod Good
 mod Ours
-mod Homely
+mod TakenAsOwn
 mod Steps
 pub mod Runs
 mod Painted

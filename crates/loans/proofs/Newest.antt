@@ -10,10 +10,7 @@ use Rattle.loans.specs.declared.mark.Mark.{Mark}
 use Rattle.loans.specs.Stocks.{Stock, of_loan, marks_of, lengths}
 use Rattle.loans.specs.Strokes.{is_newest, marks_less, bytes_less, file_back, undone_stock}
 use Rattle.loans.specs.Taking.{no_mark, NewestAt, stock_less}
-
-pub lengths_append : (ms ns : List Mark) → lengths (ms ++ ns) ≡ lengths ms + lengths ns
-lengths_append [] ns = omega arith
-lengths_append (m ∷ ms) ns = omega (arith, lengths_append ms ns)
+use Rattle.loans.proofs.Marks.{marks_cons, lengths_cons, lengths_append}
 
 -- of the marks up to a position, the last, and those before it
 pub record Stepped (ms xs ys : List Mark) (m : Mark) : Type 0 where
@@ -45,7 +42,7 @@ last_apart xs some =
 
 pub marks_none : (n : ℕ) (ms : List Mark) → list_any (of_loan n) ms ≡ false → marks_of n ms ≡ 0
 marks_none n [] h = refl
-marks_none n (m ∷ ms) h = go (of_loan n m) h (marks_none n ms)
+marks_none n (m ∷ ms) h = marks_cons n m ms ∙ go (of_loan n m) h (marks_none n ms)
   where
     go : (b : Bool) → (b || list_any (of_loan n) ms) ≡ false → (list_any (of_loan n) ms ≡ false → marks_of n ms ≡ 0)
         → cond b (suc (marks_of n ms)) (marks_of n ms) ≡ 0
@@ -120,7 +117,8 @@ module _ (n : ℕ) (m : Mark) (of-n : of_loan n m ≡ true) (behind : List Mark)
   file_mid file [] ks = cond-true _ _ _ newest_mid
   file_mid file (x ∷ front) ks =
       cond-false _ _ _ (not_newest x front) ∙ file_mid file front (drop x.length ks)
-      ∙ ap (λ y. paste file m.place (take m.length y) m.length) (drop-drop (lengths front) x.length ks)
+      ∙ ap (λ y. paste file m.place (take m.length y) m.length)
+      (drop-drop (lengths front) x.length ks ∙ ap (λ i. drop i ks) (sym (lengths_cons x front)))
 
   pub bytes_mid : (front : List Mark) (ks : List ℕ) → bytes_less n (front ++ m ∷ behind) ks ≡ without_run (lengths front) m.length ks
   bytes_mid [] ks = cond-true _ _ _ newest_mid ∙ ap (λ i. drop i ks) (omega arith)
@@ -129,6 +127,7 @@ module _ (n : ℕ) (m : Mark) (of-n : of_loan n m ≡ true) (behind : List Mark)
       ∙ (sym (append_assoc (take x.length ks) (take (lengths front) (drop x.length ks)) (drop (lengths front + m.length) (drop x.length ks)))
       ∙ ap₂ (λ a b. a ++ b) (sym (take-add x.length (lengths front) ks))
       (drop-drop (lengths front + m.length) x.length ks ∙ ap (λ i. drop i ks) (omega arith)))
+      ∙ ap (λ i. without_run i m.length ks) (sym (lengths_cons x front))
 
 -- the newest mark at a position, taken from the shelves and put back into the file
 module _ (n k begin : ℕ) (st : Stock) (at : NewestAt st.marks n k begin) where

@@ -42,6 +42,6 @@ pub home_run : (y : Layout) (number : ℕ) (file : List ℕ) (k : Stock) (ds : L
 home_run y number file k ds e a b =
     let ours = ours_run y number file k ds e a b in
     record {
-      sized = ours.1 ∙ sym (ap (λ (z : Layout). z.table.length) (law_run y number file k ds e a b).layout);
+      sized = ours.1 ∙ sym (ap (λ (x : Layout). x.table.length) (law_run y number file k ds e a b).layout);
       ours = ours.0;
     }

@@ -1,6 +1,7 @@
 -- The job, file and shelves that a history tells: the shelves are the job's, and the file has the opening's length.
 use Rattle.std.proofs.Common.{◌≡◌, ℕ, true, false, List, [], ◌∷◌, map, length, Some, sym, refl, ap, ◌∙◌, subst, arith}
-use Rattle.std.specs.List.{AllByRecursion}
+use Rattle.std.specs.List.{All}
+use Rattle.std.proofs.lemmas.List.Elements.{All-head, All-tail}
 use Rattle.std.proofs.lemmas.List.FromFn.{length-map-range_with_len}
 use Rattle.std.proofs.lemmas.Bool.{eq-eqb, le-leb, and_from, not_from_true}
 use Rattle.dds.specs.declared.area.Area.{Area}
@@ -49,10 +50,13 @@ module _ (y : Layout) (number mm mb : ℕ) (opening : List ℕ) (ls os : List Lo
       (and_from _ _ (out_counted ms os n ∙ out)
       (subst (λ (x : Area). lies_in x (mark_of s) ≡ true) area (and_from _ _ (le-leb _ _ r.inside.start) (le-leb _ _ r.inside.end))))
 
-  sound_marks : (ms : List Mark) (v : List Stroke) → AllByRecursion (λ (s : Stroke). is_out os s.painting.loan ≡ true) v → AllByRecursion (Laid opening ls) v
+  sound_marks : (ms : List Mark) (v : List Stroke) → All (λ (s : Stroke). is_out os s.painting.loan ≡ true) v → All (Laid opening ls) v
       → all_sound (map (counted_loan ms) os) (map mark_of v) ≡ true
   sound_marks ms [] h r = refl
-  sound_marks ms (s ∷ v) h r = and_from _ _ (sound_mark ms s h.0 r.0) (sound_marks ms v h.1 r.1)
+  sound_marks ms (s ∷ v) h r =
+      let out : (Stroke → Type 0) = λ x. is_out os x.painting.loan ≡ true in
+      and_from _ _ (sound_mark ms s (All-head out s v h) (All-head (Laid opening ls) s v r))
+      (sound_marks ms v (All-tail out s v h) (All-tail (Laid opening ls) s v r))
 
   pub told_ours : (let s : State = told_by y number mm mb opening ls os keeps cancels ss in are_ours s.book s.stock ≡ true)
   told_ours =

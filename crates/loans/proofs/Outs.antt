@@ -1,7 +1,8 @@
 -- Loans: which are out after one is granted or ends, which strokes of theirs the shelves hold then, and a book's counts.
-use Rattle.std.proofs.Common.{◌≡◌, ℕ, suc, ◌+◌, ◌<◌, ◌≤◌, Bool, true, false, cond, not, ◌&&◌, ◌||◌, eqb, ◌⊎◌, List, [], ◌∷◌, ◌++◌, map, reverse, length, filter, sym, refl, ap, ◌∙◌, subst, inl, inr, arith}
-use Rattle.std.specs.List.{AllByRecursion}
-use Rattle.std.proofs.ByRecursion.{All-weaker, All-push, all_kept_by}
+use Rattle.std.proofs.Common.{◌≡◌, ℕ, suc, Some, ◌+◌, ◌<◌, ◌≤◌, Bool, true, false, cond, not, ◌&&◌, ◌||◌, eqb, ◌≢◌, ◌⊎◌, List, [], ◌∷◌, ◌++◌, map, reverse, length, filter, sym, refl, ap, ◌∙◌, subst, inl, inr, arith}
+use Rattle.std.specs.List.{All, find}
+use Rattle.std.specs.Option.{unwrap_or}
+use Rattle.std.proofs.lemmas.List.Elements.{All-nil, All-head, All-tail, All-weaker, All-push, All-filter}
 use Rattle.std.proofs.lemmas.Bool.{eqb-true, eqb-false, eq-eqb, ne_eqb, and_right, and_from, or_parts, cases_Bool, both_ways, false≢true}
 use Rattle.dds.specs.declared.piece.Piece.{Piece}
 use Rattle.loans.specs.declared.ledger.Loan.{Loan}
@@ -57,6 +58,22 @@ and_not true true = refl
 and_not true false = refl
 and_not false b = refl
 
+-- the loan of another number stays what it was
+pub loan_less : (ls : List Loan) (n m : ℕ) → m ≢ n → the_loan (less_all (is_number n) ls) m ≡ the_loan ls m
+loan_less [] n m ne = refl
+loan_less (l ∷ ls) n m ne = go (eqb n l.number) refl (loan_less ls n m ne)
+  where
+    first : Bool → List Loan → Loan
+    first b rest = unwrap_or (cond b (Some l) (find (is_number m) rest)) no_loan
+
+    go : (b : Bool) → eqb n l.number ≡ b → the_loan (less_all (is_number n) ls) m ≡ the_loan ls m
+        → the_loan (cond (not b) (l ∷ less_all (is_number n) ls) (less_all (is_number n) ls)) m ≡ first (is_number m l) ls
+    go true e r =
+        let other : m ≢ l.number = λ f. ne (f ∙ sym (eqb-true n l.number e)) in
+        r ∙ sym (ap (λ b. first b ls) (ne_eqb m l.number other))
+    go false e r =
+        elim (is_number m l) as (λ b. first b (less_all (is_number n) ls) ≡ first b ls) [ true ↦ refl | false ↦ r ]
+
 -- the strokes on the shelves once the loan n has ended, kept or cancelled
 pub undoable_kept : (ls : List Loan) (n : ℕ) (ss : List Stroke) → undoable (less_all (is_number n) ls) ss ≡ less_all (stroke_of n) (undoable ls ss)
 undoable_kept ls n ss = sym (kept_by_reverse (λ s. not (stroke_of n s)) (live ls ss) ∙ ap reverse (kept_by_twice _ _ ss ∙ kept_by_same _ _ ss (all_of _ (λ s. sym (out_less ls n s.painting.loan)) ss)))
@@ -68,7 +85,7 @@ undoable_cancelled ls n ss = ap reverse (kept_by_twice _ _ ss ∙ kept_by_same _
     same s = rw (out_less ls n s.painting.loan) (and_not (stroke_of n s) (is_out ls s.painting.loan))
 
 -- the shelves of a loan that ended
-pub end_stock : (mm mb : ℕ) (ls : List Loan) (n : ℕ) (ss : List Stroke) → AllByRecursion Even (undoable ls ss)
+pub end_stock : (mm mb : ℕ) (ls : List Loan) (n : ℕ) (ss : List Stroke) → All Even (undoable ls ss)
     → stock_without (shelved mm mb (undoable ls ss)) n ≡ shelved mm mb (undoable (less_all (is_number n) ls) ss)
 end_stock mm mb ls n ss even =
     let ms = kept_by_map mark_of (λ m. not (of_loan n m)) (undoable ls ss) in
@@ -78,15 +95,19 @@ end_stock mm mb ls n ss even =
 -- the numbers rise: no loan is out twice
 abbrev pub Rising : List Loan → Type 0
 Rising [] = Unit {0}
-Rising (l ∷ ls) = AllByRecursion (λ (k : Loan). l.number < k.number) ls × Rising ls
+Rising (l ∷ ls) = All (λ (k : Loan). l.number < k.number) ls × Rising ls
 
-pub rising_push : (ls : List Loan) (l : Loan) → Rising ls → AllByRecursion (λ (k : Loan). k.number < l.number) ls → Rising (ls ++ l ∷ [])
-rising_push [] l r h = (tt, tt)
-rising_push (x ∷ ls) l r h = (All-push (λ (k : Loan). x.number < k.number) ls l r.0 h.0, rising_push ls l r.1 h.1)
+pub rising_push : (ls : List Loan) (l : Loan) → Rising ls → All (λ (k : Loan). k.number < l.number) ls → Rising (ls ++ l ∷ [])
+rising_push [] l r h = (All-nil (λ (k : Loan). l.number < k.number), tt)
+rising_push (x ∷ ls) l r h =
+    let below : (Loan → Type 0) = λ k. k.number < l.number in (
+      All-push (λ (k : Loan). x.number < k.number) ls l r.0 (All-head below x ls h),
+      rising_push ls l r.1 (All-tail below x ls h),
+    )
 
 pub rising_kept : (p : Loan → Bool) (ls : List Loan) → Rising ls → Rising (filter p ls)
 rising_kept p [] r = tt
-rising_kept p (l ∷ ls) r = elim (p l) as (λ b. Rising (cond b (l ∷ filter p ls) (filter p ls))) [ true ↦ (all_kept_by p (λ (k : Loan). l.number < k.number) ls r.0, rising_kept p ls r.1) | false ↦ rising_kept p ls r.1 ]
+rising_kept p (l ∷ ls) r = elim (p l) as (λ b. Rising (cond b (l ∷ filter p ls) (filter p ls))) [ true ↦ (All-filter p (λ (k : Loan). l.number < k.number) ls r.0, rising_kept p ls r.1) | false ↦ rising_kept p ls r.1 ]
 
 -- a loan that ends is one loan less
 pub one_less : (n : ℕ) (ls : List Loan) → Rising ls → is_out ls n ≡ true → length ls ≡ suc (length (less_all (is_number n) ls))
@@ -117,7 +138,8 @@ module _ (ms : List Mark) where
   pub loan_counted : {X : Type 0} (f : Loan → X) → ((l : Loan) → f (counted_loan ms l) ≡ f l) → (ls : List Loan) (n : ℕ) → f (the_loan (map (counted_loan ms) ls) n) ≡ f (the_loan ls n)
   loan_counted f h [] n = refl
   loan_counted f h (l ∷ ls) n =
-      elim (is_number n l) as (λ b. f (cond b (counted_loan ms l) (the_loan (map (counted_loan ms) ls) n)) ≡ f (cond b l (the_loan ls n))) [ true ↦ h l | false ↦ loan_counted f h ls n ]
+      elim (is_number n l) as (λ b. f (unwrap_or (cond b (Some (counted_loan ms l)) (find (is_number n) (map (counted_loan ms) ls))) no_loan)
+      ≡ f (unwrap_or (cond b (Some l) (find (is_number n) ls)) no_loan)) [ true ↦ h l | false ↦ loan_counted f h ls n ]
 
   pub piece_counted : (ls : List Loan) (p : Piece) → piece_is_out (map (counted_loan ms) ls) p ≡ piece_is_out ls p
   piece_counted [] p = refl

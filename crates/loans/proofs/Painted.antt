@@ -13,6 +13,7 @@ use Rattle.loans.specs.Rules.Deed.{paint}
 use Rattle.loans.specs.Calls.{Carried}
 use Rattle.loans.specs.Writing.{book_counted}
 use Rattle.loans.proofs.Counting.{out_inside}
+use Rattle.loans.proofs.Marks.{marks_push}
 use Rattle.loans.proofs.Tallying.{marks_few}
 use Rattle.loans.proofs.Recounting.{counted_at, recount_at}
 use Rattle.loans.proofs.Allowed.{may_paint, stroke_inside, ours}
@@ -37,18 +38,6 @@ paint_at s p k at fits orderly none stands is =
       inside = omega (arith, lies.1, in-file.0, may.sized, is);
       few = few_strokes s.book s.stock k fits may.ours stands.inside;
     }
-
--- one mark more
-pub marks_push : (n : ℕ) (ms : List Mark) (m : Mark) → marks_of n (ms ++ m ∷ []) ≡ cond (of_loan n m) (suc (marks_of n ms)) (marks_of n ms)
-marks_push n [] m = refl
-marks_push n (x ∷ ms) m = go (of_loan n x) (of_loan n m) (marks_push n ms m)
-  where
-    go : (a b : Bool) → marks_of n (ms ++ m ∷ []) ≡ cond b (suc (marks_of n ms)) (marks_of n ms)
-        → cond a (suc (marks_of n (ms ++ m ∷ []))) (marks_of n (ms ++ m ∷ [])) ≡ cond b (suc (cond a (suc (marks_of n ms)) (marks_of n ms))) (cond a (suc (marks_of n ms)) (marks_of n ms))
-    go true true e = ap suc e
-    go true false e = ap suc e
-    go false true e = e
-    go false false e = e
 
 -- a job that has one count of strokes anew, and the counts of its shelves, is the job recounted
 pub recounts : (s t : Book) (k n : ℕ) (v w : Stock) → NumbersRise s.outs → are_ours s v ≡ true → StandsAt s.outs n k

@@ -8,7 +8,8 @@ use Rattle.loans.specs.declared.mark.Mark.{Mark}
 use Rattle.loans.specs.Stocks.{of_loan, lengths}
 use Rattle.loans.specs.Taking.{no_mark}
 use Rattle.loans.specs.Ending.{restored, InFile}
-use Rattle.loans.proofs.Newest.{lengths_append, Stepped}
+use Rattle.loans.proofs.Marks.{lengths_append}
+use Rattle.loans.proofs.Newest.{Stepped}
 
 -- from a position on all is put back
 pub record Back (ms : List Mark) (ks f₀ f : List ℕ) (n k end' : ℕ) : Type 0 where

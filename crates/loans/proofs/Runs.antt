@@ -1,7 +1,7 @@
 -- The law over every list of calls, and that the job's own file and shelves are never taken for others.
 use Rattle.std.proofs.Common.{◌≡◌, ℕ, ◌≤◌, true, not, List, [], ◌∷◌, map, length, get_or, Some, None, Ok, Err, Option, Result, arith, sym, refl, ap, ◌∙◌, subst}
-use Rattle.std.specs.List.{AllByRecursion}
-use Rattle.std.proofs.ByRecursion.{All-weaker, all_kept_by}
+use Rattle.std.specs.List.{All}
+use Rattle.std.proofs.lemmas.List.Elements.{All-nil, All-cons, All-head, All-tail, All-map, All-weaker, All-filter}
 use Rattle.std.proofs.lemmas.List.FromFn.{fill_by_all, get_or-map-range_with_len}
 use Rattle.std.proofs.lemmas.List.{length-map}
 use Rattle.refusal.specs.declared.Refusal.{Refusal}
@@ -17,19 +17,19 @@ use Rattle.loans.specs.Strokes.{State, counted_loan}
 use Rattle.loans.specs.Rules.{Deed, call_refusal, carried_out, number_for, refusal_or, left, answer_to, after, answers_to, after_all}
 use Rattle.loans.specs.Rules.Deed.{lend, paint, undo, keep, cancel}
 use Rattle.loans.specs.History.{Event, Stroke, written_down, history_of, lent, out_in, keeps_in, cancels_in, stroke_of, standing_after, standing, laid_after, ever_laid, byte_under, undoable, mark_of, told}
-use Rattle.loans.specs.Law.{Answered, TakenAsOwn, OfPiece, OfListed, CountsMarks, Law}
+use Rattle.loans.specs.Law.{Answered, TakenAsOwn, OfPiece, OfListed, CountsMarks, InRow, Law}
 use Rattle.loans.specs.Runs.{opened_state}
-use Rattle.loans.proofs.Listed.{all_less_first, first_among, all_among}
+use Rattle.loans.proofs.Listed.{all_of, all_less_first, first_among, all_among}
 use Rattle.loans.proofs.Lawful.{Lawful, lawful, listed_area}
 use Rattle.loans.proofs.Good.{good_none, outs_apart}
 use Rattle.loans.proofs.Ours.{told_ours, told_same, told_length}
-use Rattle.loans.proofs.Homely.{homely, homely_answer}
+use Rattle.loans.proofs.TakenAsOwn.{not_anothers, own_answer}
 use Rattle.loans.proofs.Steps.{Fine, Next, step_lend, step_paint, step_undo, step_keep, step_cancel}
 
 -- loans that are counted by marks count them
-all_count_marks : (ms : List Mark) (ls : List Loan) → AllByRecursion (CountsMarks ms) (map (counted_loan ms) ls)
-all_count_marks ms [] = tt
-all_count_marks ms (l ∷ ls) = (refl, all_count_marks ms ls)
+all_count_marks : (ms : List Mark) (ls : List Loan) → All (CountsMarks ms) (map (counted_loan ms) ls)
+all_count_marks ms ls =
+    All-map (CountsMarks ms) (counted_loan ms) ls (all_of (λ (l : Loan). CountsMarks ms (counted_loan ms l)) (λ l. refl) ls)
 
 module _ (y : Layout) (number mm mb : ℕ) (opening : List ℕ) (lawful : Lawful y.table (length opening)) (same : length opening ≡ y.table.length) where
   abbrev t : Table
@@ -65,13 +65,13 @@ module _ (y : Layout) (number mm mb : ℕ) (opening : List ℕ) (lawful : Lawful
 
   taken_as_own : (h : List Event) → FineIn h → (d : Deed) → TakenAsOwn (record { call = d; answer = answer_to (here h) d })
   taken_as_own h f d =
-      homely_answer (call_refusal (here h) d) _
-      (homely (here h) (told_same y number mm mb opening (lent t h) (out_in t h) (keeps_in h) (cancels_in h) (standing t opening h) same) (here_ours h f) d)
+      own_answer (call_refusal (here h) d) _
+      (not_anothers (here h) (told_same y number mm mb opening (lent t h) (out_in t h) (keeps_in h) (cancels_in h) (standing t opening h) same) (here_ours h f) d)
 
   -- what holds after a history
   record Stands (s : State) (h : List Event) : Type 0 where
     answers : Answered y number mm mb opening h
-    own : AllByRecursion TakenAsOwn h
+    own : All TakenAsOwn h
     state : s ≡ here h
     fine : FineIn h
 
@@ -82,7 +82,9 @@ module _ (y : Layout) (number mm mb : ℕ) (opening : List ℕ) (lawful : Lawful
       subst (λ (x : State). NextIn (after x d) (record { call = d; answer = answer_to x d } ∷ h)) (sym e) (step h w.fine d) in
       record {
         answers = (ap (λ (x : State). answer_to x d) e, w.answers);
-        own = (subst (λ (x : State). TakenAsOwn (record { call = d; answer = answer_to x d })) (sym e) (taken_as_own h w.fine d), w.own);
+        own =
+            All-cons TakenAsOwn _ h
+            (subst (λ (x : State). TakenAsOwn (record { call = d; answer = answer_to x d })) (sym e) (taken_as_own h w.fine d)) w.own;
         state = next.state;
         fine = next.fine;
       }
@@ -111,7 +113,7 @@ module _ (y : Layout) (number mm mb : ℕ) (opening : List ℕ) (lawful : Lawful
         numbered = ap (λ (x : State). x.book.number) e;
         layout = ap (λ (x : State). x.book.layout) e;
         loans = ap (λ (x : State). x.book.outs) e ∙ ap (λ ms. map (counted_loan ms) (out_in t h)) (sym (ap (λ (x : State). x.stock.marks) e));
-        strokes = subst (λ (x : State). AllByRecursion (CountsMarks x.stock.marks) x.book.outs) (sym e) (all_count_marks (here h).stock.marks (out_in t h));
+        strokes = subst (λ (x : State). All (CountsMarks x.stock.marks) x.book.outs) (sym e) (all_count_marks (here h).stock.marks (out_in t h));
         granted = ap (λ (x : State). x.book.granted) e;
         kept = ap (λ (x : State). x.book.kept) e;
         cancelled = ap (λ (x : State). x.book.cancelled) e;
@@ -139,9 +141,9 @@ module _ (y : Layout) (number mm mb : ℕ) (opening : List ℕ) (lawful : Lawful
       let file' = fill_by_all (byte_under opening []) opening (length opening) 0 refl (λ i h. refl) in
       record {
         answers = tt;
-        own = tt;
+        own = All-nil TakenAsOwn;
         state = λ i. record { book = fresh_book y (Some number); file = file' i; stock = record { marks = a i; bytes = b i; most_marks = c i; most_bytes = d i } };
-        fine = record { good = good_none t mm mb opening; rows = tt; balance = refl };
+        fine = record { good = good_none t mm mb opening; rows = All-nil (InRow []); balance = refl };
       }
 
 -- the law over every list of calls on a job just opened
@@ -188,22 +190,22 @@ ours_run y number file k ds e a b =
     (opened y number k.most_marks k.most_bytes file l e k a b refl refl))
 
 -- what holds of every stroke ever laid holds of those that stand
-pub standing_all : (P : Stroke → Type 0) (t : Table) (opening : List ℕ) (h : List Event) → AllByRecursion P (ever_laid t opening h) → AllByRecursion P (standing t opening h)
-standing_all P t opening [] a = tt
+pub standing_all : (P : Stroke → Type 0) (t : Table) (opening : List ℕ) (h : List Event) → All P (ever_laid t opening h) → All P (standing t opening h)
+standing_all P t opening [] a = All-nil P
 standing_all P t opening (e ∷ h) a = go (standing_all P t opening h) e.call e.answer a
   where
     Before : Type 0
-    Before = AllByRecursion P (ever_laid t opening h) → AllByRecursion P (standing t opening h)
+    Before = All P (ever_laid t opening h) → All P (standing t opening h)
 
-    go : Before → (d : Deed) (r : Result ℕ Refusal) → AllByRecursion P (laid_after opening (out_in t h) (standing t opening h) (ever_laid t opening h) d r)
-        → AllByRecursion P (standing_after opening (out_in t h) (standing t opening h) d r)
+    go : Before → (d : Deed) (r : Result ℕ Refusal) → All P (laid_after opening (out_in t h) (standing t opening h) (ever_laid t opening h) d r)
+        → All P (standing_after opening (out_in t h) (standing t opening h) d r)
     go before d (Err x) b = before b
     go before (lend p who) (Ok k) b = before b
-    go before (paint p) (Ok k) b = (b.0, before b.1)
+    go before (paint p) (Ok k) b = All-cons P _ _ (All-head P _ _ b) (before (All-tail P _ _ b))
     go before (undo n who) (Ok k) b = all_less_first (stroke_of n) P _ (before b)
     go before (keep n) (Ok k) b = before b
-    go before (cancel n) (Ok k) b = all_kept_by (λ s. not (stroke_of n s)) P _ (before b)
+    go before (cancel n) (Ok k) b = All-filter (λ s. not (stroke_of n s)) P _ (before b)
 
 -- what holds of every loan ever granted holds of that of a number
-pub lent_all : (P : Loan → Type 0) (ls : List Loan) (n : ℕ) → AllByRecursion P ls → is_out ls n ≡ true → P (the_loan ls n)
+pub lent_all : (P : Loan → Type 0) (ls : List Loan) (n : ℕ) → All P ls → is_out ls n ≡ true → P (the_loan ls n)
 lent_all P ls n a out = all_among P ls (the_loan ls n) a (first_among (is_number n) no_loan ls out).0

@@ -18,35 +18,25 @@ use Rattle.loans.specs.Rules.Deed.{cancel}
 use Rattle.loans.specs.Calls.{Called}
 use Rattle.loans.specs.Scrapping.{AtHome}
 use Rattle.loans.proofs.Allowed.{ours}
+use Rattle.loans.proofs.Marks.{lengths_cons}
 use Rattle.loans.proofs.Slots.{stands_first}
 use Rattle.loans.proofs.Ended.{less_here}
 use Rattle.loans.proofs.Undone.{marks_in_file}
-use Rattle.loans.proofs.Outs.{out_less, out_counted, loan_counted, all_counted_lem}
+use Rattle.loans.proofs.Outs.{out_less, loan_less, out_counted, loan_counted, all_counted_lem}
 
 -- the kept bytes of some of the marks are as many as these cover
 pub bytes_covered : (p : Mark → Bool) (ms : List Mark) (ks : List ℕ) → lengths ms ≤ length ks → lengths (filter p ms) ≡ length (bytes_of p ms ks)
 bytes_covered p [] ks h = refl
 bytes_covered p (m ∷ ms) ks h =
+    let all = lengths_cons m ms in
     let rest = bytes_covered p ms (drop m.length ks) (omega (arith, length-drop m.length ks)) in
     let here = length-take-le m.length ks (omega arith) in
     go (p m) rest here
   where
     go : (b : Bool) → lengths (filter p ms) ≡ length (bytes_of p ms (drop m.length ks)) → length (take m.length ks) ≡ m.length
         → lengths (cond b (m ∷ filter p ms) (filter p ms)) ≡ length (cond b (take m.length ks ++ bytes_of p ms (drop m.length ks)) (bytes_of p ms (drop m.length ks)))
-    go true e f = omega (arith, e, f, length-append (take m.length ks) (bytes_of p ms (drop m.length ks)))
+    go true e f = omega (arith, lengths_cons m (filter p ms), e, f, length-append (take m.length ks) (bytes_of p ms (drop m.length ks)))
     go false e f = e
-
--- the loan of another number stays what it was
-loan_less : (ls : List Loan) (n m : ℕ) → m ≢ n → the_loan (less_all (is_number n) ls) m ≡ the_loan ls m
-loan_less [] n m ne = refl
-loan_less (l ∷ ls) n m ne = go (eqb n l.number) refl (loan_less ls n m ne)
-  where
-    go : (b : Bool) → eqb n l.number ≡ b → the_loan (less_all (is_number n) ls) m ≡ the_loan ls m
-        → the_loan (cond (not b) (l ∷ less_all (is_number n) ls) (less_all (is_number n) ls)) m ≡ cond (is_number m l) l (the_loan ls m)
-    go true e r =
-        let other : m ≢ l.number = λ f. ne (f ∙ sym (eqb-true n l.number e)) in
-        r ∙ sym (cond-false (is_number m l) _ _ (ne_eqb m l.number other))
-    go false e r = ap (λ (x : Loan). cond (is_number m l) l x) r
 
 -- a sound mark of another loan is sound once a loan has ended
 sound_less : (ls : List Loan) (ms : List Mark) (n : ℕ) (m : Mark) → m.loan ≢ n → is_sound ls m ≡ true
@@ -75,6 +65,7 @@ all_sound_less ls all n (m ∷ ms) h =
 pub restored_length : (n : ℕ) (f : List ℕ) (ms : List Mark) (ks : List ℕ) → lengths ms ≤ length ks → InFile (length f) ms → length (restored n f ms ks) ≡ length f
 restored_length n f [] ks h inside = refl
 restored_length n f (m ∷ ms) ks h inside =
+    let all = lengths_cons m ms in
     let rest = restored_length n f ms (drop m.length ks) (omega (arith, length-drop m.length ks)) (λ k i. inside (suc k) (omega arith)) in
     let here = length-take-le m.length ks (omega arith) in
     go (of_loan n m) rest here (inside 0 (omega arith))

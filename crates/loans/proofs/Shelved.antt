@@ -2,11 +2,10 @@
 use Rattle.std.proofs.Common.{◌≡◌, ℕ, zero, suc, ◌+◌, ◌-◌, ◌≤◌, Bool, true, false, cond, ◌⊎◌, List, [], ◌∷◌, ◌++◌, map, length, take, drop, filter, sym, refl, ap, ◌∙◌, subst, ap₂, subst₂, inl, inr, append_assoc, arith}
 use mathlib.Core.List.{reverse-cons}
 use lib.Seq.{paste}
-use Rattle.std.specs.List.{list_any, flat_map, AllByRecursion}
+use Rattle.std.specs.List.{list_any, flat_map, All}
 use Rattle.std.proofs.lemmas.List.{reverse-append, length-append, take_at, drop_at, map_push, flat_map_more}
-use Rattle.std.proofs.lemmas.List.Elements.{filter-append}
-use Rattle.std.proofs.ByRecursion.{All-weaker, all_kept_by}
-use Rattle.std.proofs.lemmas.Bool.{and_right}
+use Rattle.std.proofs.lemmas.List.Elements.{All-head, All-tail, All-weaker, All-filter, filter_passes, filter-append}
+use Rattle.std.proofs.lemmas.Bool.{and_right, cond-true, cond-false}
 use Rattle.loans.specs.declared.ledger.Loan.{Loan}
 use Rattle.loans.specs.declared.mark.Mark.{Mark}
 use Rattle.loans.specs.Lists.{less_first, less_all}
@@ -14,7 +13,8 @@ use Rattle.loans.specs.Stocks.{is_out, of_loan, marks_of, lengths}
 use Rattle.loans.specs.Strokes.{stock_with, marks_less, bytes_less, file_back, undone_stock}
 use Rattle.loans.specs.Ending.{bytes_of, restored}
 use Rattle.loans.specs.History.{Stroke, stroke_of, stroke_length, byte_under, bytes_under, undoable, mark_of, shelved}
-use Rattle.loans.proofs.Listed.{all_right, all_reverse, None, Split, split, some_of_none, some_of_mid, some_of_map, less_all_none, less_all_first, all_less_first, split_less}
+use Rattle.loans.proofs.Listed.{all_right, all_reverse, None, Split, split, none_head, none_tail, some_of_none, some_of_mid, some_of_map, less_all_none, less_all_first, all_less_first, split_less}
+use Rattle.loans.proofs.Marks.{marks_cons, lengths_cons}
 use Rattle.loans.proofs.Underneath.{pasted, between_values, covers_from, covers_not}
 use Rattle.loans.proofs.Soundness.{Sized, Sound, out_of, sound_less, undone}
 
@@ -40,74 +40,85 @@ module _ (n : ℕ) where
       rw (some_newer older k newer e, and_right (stroke_of n s) false refl) (ap (λ ms. mark_of s ∷ ms) (marks_mid older k newer e h))
 
   -- its bytes are taken from among the kept ones
-  pub bytes_mid : (older : List Stroke) (k : Stroke) (newer : List Stroke) → stroke_of n k ≡ true → None (stroke_of n) newer → AllByRecursion Even (older ++ k ∷ newer)
+  pub bytes_mid : (older : List Stroke) (k : Stroke) (newer : List Stroke) → stroke_of n k ≡ true → None (stroke_of n) newer → All Even (older ++ k ∷ newer)
       → bytes_less n (map mark_of (older ++ k ∷ newer)) (all_below (older ++ k ∷ newer)) ≡ all_below (older ++ newer)
-  bytes_mid [] k newer e h z = rw (e, none_newer newer h) (drop_at k.below (all_below newer) (stroke_length k) z.0)
+  bytes_mid [] k newer e h z = rw (e, none_newer newer h) (drop_at k.below (all_below newer) (stroke_length k) (All-head Even k newer z))
   bytes_mid (s ∷ older) k newer e h z =
       rw (
         some_newer older k newer e,
         and_right (stroke_of n s) false refl,
-        take_at s.below (all_below (older ++ k ∷ newer)) (stroke_length s) z.0,
-        drop_at s.below (all_below (older ++ k ∷ newer)) (stroke_length s) z.0,
+        take_at s.below (all_below (older ++ k ∷ newer)) (stroke_length s) (All-head Even s _ z),
+        drop_at s.below (all_below (older ++ k ∷ newer)) (stroke_length s) (All-head Even s _ z),
       )
-      (ap (λ ks. s.below ++ ks) (bytes_mid older k newer e h z.1))
+      (ap (λ ks. s.below ++ ks) (bytes_mid older k newer e h (All-tail Even s _ z)))
 
   -- and put back into the file
-  pub file_mid : (file : List ℕ) (older : List Stroke) (k : Stroke) (newer : List Stroke) → stroke_of n k ≡ true → None (stroke_of n) newer → AllByRecursion Even (older ++ k ∷ newer)
+  pub file_mid : (file : List ℕ) (older : List Stroke) (k : Stroke) (newer : List Stroke) → stroke_of n k ≡ true → None (stroke_of n) newer → All Even (older ++ k ∷ newer)
       → file_back n file (map mark_of (older ++ k ∷ newer)) (all_below (older ++ k ∷ newer)) ≡ paste file k.place k.below (stroke_length k)
-  file_mid file [] k newer e h z = rw (e, none_newer newer h, take_at k.below (all_below newer) (stroke_length k) z.0)
+  file_mid file [] k newer e h z = rw (e, none_newer newer h, take_at k.below (all_below newer) (stroke_length k) (All-head Even k newer z))
   file_mid file (s ∷ older) k newer e h z =
       rw (
         some_newer older k newer e,
         and_right (stroke_of n s) false refl,
-        drop_at s.below (all_below (older ++ k ∷ newer)) (stroke_length s) z.0,
+        drop_at s.below (all_below (older ++ k ∷ newer)) (stroke_length s) (All-head Even s _ z),
       )
-      (file_mid file older k newer e h z.1)
+      (file_mid file older k newer e h (All-tail Even s _ z))
 
   pub restored_none : (file : List ℕ) (ss : List Stroke) (ks : List ℕ) → None (stroke_of n) ss → restored n file (map mark_of ss) ks ≡ file
   restored_none file [] ks h = refl
-  restored_none file (s ∷ ss) ks h = rw h.0 (restored_none file ss (drop (stroke_length s) ks) h.1)
+  restored_none file (s ∷ ss) ks h =
+      rw (none_head (stroke_of n) s ss h)
+      (restored_none file ss (drop (stroke_length s) ks) (none_tail (stroke_of n) s ss h))
 
   -- all of a loan taken back is its newest taken back, and then the others
-  pub restored_mid : (file : List ℕ) (older : List Stroke) (k : Stroke) (newer : List Stroke) → stroke_of n k ≡ true → None (stroke_of n) newer → AllByRecursion Even (older ++ k ∷ newer)
+  pub restored_mid : (file : List ℕ) (older : List Stroke) (k : Stroke) (newer : List Stroke) → stroke_of n k ≡ true → None (stroke_of n) newer → All Even (older ++ k ∷ newer)
       → restored n file (map mark_of (older ++ k ∷ newer)) (all_below (older ++ k ∷ newer))
       ≡ restored n (paste file k.place k.below (stroke_length k)) (map mark_of (older ++ newer)) (all_below (older ++ newer))
   restored_mid file [] k newer e h z =
-      rw (e, take_at k.below (all_below newer) (stroke_length k) z.0, restored_none file newer (drop (stroke_length k) (k.below ++ all_below newer)) h)
+      rw (e, take_at k.below (all_below newer) (stroke_length k) (All-head Even k newer z), restored_none file newer (drop (stroke_length k) (k.below ++ all_below newer)) h)
       (sym (restored_none (paste file k.place k.below (stroke_length k)) newer (all_below newer) h))
   restored_mid file (s ∷ older) k newer e h z =
       rw (
-        take_at s.below (all_below (older ++ k ∷ newer)) (stroke_length s) z.0,
-        drop_at s.below (all_below (older ++ k ∷ newer)) (stroke_length s) z.0,
-        take_at s.below (all_below (older ++ newer)) (stroke_length s) z.0,
-        drop_at s.below (all_below (older ++ newer)) (stroke_length s) z.0,
+        take_at s.below (all_below (older ++ k ∷ newer)) (stroke_length s) (All-head Even s _ z),
+        drop_at s.below (all_below (older ++ k ∷ newer)) (stroke_length s) (All-head Even s _ z),
+        take_at s.below (all_below (older ++ newer)) (stroke_length s) (All-head Even s _ z),
+        drop_at s.below (all_below (older ++ newer)) (stroke_length s) (All-head Even s _ z),
       )
-      (ap (λ (f : List ℕ). cond (stroke_of n s) (paste f s.place s.below (stroke_length s)) f) (restored_mid file older k newer e h z.1))
+      (ap (λ (f : List ℕ). cond (stroke_of n s) (paste f s.place s.below (stroke_length s)) f) (restored_mid file older k newer e h (All-tail Even s _ z)))
 
   pub count_none : (ss : List Stroke) → None (stroke_of n) ss → marks_of n (map mark_of ss) ≡ 0
   count_none [] h = refl
-  count_none (s ∷ ss) h = rw h.0 (count_none ss h.1)
+  count_none (s ∷ ss) h =
+      marks_cons n (mark_of s) (map mark_of ss) ∙ cond-false (stroke_of n s) _ _ (none_head (stroke_of n) s ss h)
+      ∙ count_none ss (none_tail (stroke_of n) s ss h)
 
   pub count_mid : (older : List Stroke) (k : Stroke) (newer : List Stroke) → stroke_of n k ≡ true → marks_of n (map mark_of (older ++ k ∷ newer)) ≡ suc (marks_of n (map mark_of (older ++ newer)))
-  count_mid [] k newer e = rw e
+  count_mid [] k newer e = marks_cons n (mark_of k) (map mark_of newer) ∙ cond-true (stroke_of n k) _ _ e
   count_mid (s ∷ older) k newer e =
-      elim (stroke_of n s) as (λ b. cond b (suc (marks_of n (map mark_of (older ++ k ∷ newer)))) (marks_of n (map mark_of (older ++ k ∷ newer)))
+      marks_cons n (mark_of s) (map mark_of (older ++ k ∷ newer))
+      ∙ elim (stroke_of n s) as (λ b. cond b (suc (marks_of n (map mark_of (older ++ k ∷ newer)))) (marks_of n (map mark_of (older ++ k ∷ newer)))
       ≡ suc (cond b (suc (marks_of n (map mark_of (older ++ newer)))) (marks_of n (map mark_of (older ++ newer))))) [
         | true ↦ ap suc (count_mid older k newer e)
         | false ↦ count_mid older k newer e
       ]
+      ∙ ap suc (sym (marks_cons n (mark_of s) (map mark_of (older ++ newer))))
 
 -- the kept bytes of some of the marks
-pub bytes_of_is : (p : Mark → Bool) (ss : List Stroke) → AllByRecursion Even ss → bytes_of p (map mark_of ss) (all_below ss) ≡ all_below (filter (λ s. p (mark_of s)) ss)
+pub bytes_of_is : (p : Mark → Bool) (ss : List Stroke) → All Even ss → bytes_of p (map mark_of ss) (all_below ss) ≡ all_below (filter (λ s. p (mark_of s)) ss)
 bytes_of_is p [] z = refl
 bytes_of_is p (s ∷ ss) z =
-    rw (take_at s.below (all_below ss) (stroke_length s) z.0, drop_at s.below (all_below ss) (stroke_length s) z.0, bytes_of_is p ss z.1)
+    rw (
+      take_at s.below (all_below ss) (stroke_length s) (All-head Even s ss z),
+      drop_at s.below (all_below ss) (stroke_length s) (All-head Even s ss z),
+      bytes_of_is p ss (All-tail Even s ss z),
+    )
     (elim (p (mark_of s)) as (λ b. cond b (s.below ++ all_below (filter (λ x. p (mark_of x)) ss)) (all_below (filter (λ x. p (mark_of x)) ss)) ≡ all_below (cond b (s ∷ filter (λ x. p (mark_of x)) ss) (filter (λ x. p (mark_of x)) ss))) [ true ↦ refl | false ↦ refl ])
 
 -- the marks' lengths add up to the kept bytes
-pub lengths_is : (ss : List Stroke) → AllByRecursion Even ss → lengths (map mark_of ss) ≡ length (all_below ss)
+pub lengths_is : (ss : List Stroke) → All Even ss → lengths (map mark_of ss) ≡ length (all_below ss)
 lengths_is [] z = refl
-lengths_is (s ∷ ss) z = let a = lengths_is ss z.1 in let b = length-append s.below (all_below ss) in let c = z.0 in omega arith
+lengths_is (s ∷ ss) z =
+    omega (arith, lengths_cons (mark_of s) (map mark_of ss), lengths_is ss (All-tail Even s ss z), length-append s.below (all_below ss), All-head Even s ss z)
 
 -- no more marks, and no more kept bytes
 abbrev pub Fewer : List Stroke → List Stroke → Type 0
@@ -140,19 +151,12 @@ module _ (ls : List Loan) where
   undoable_mid : (ss : List Stroke) (k : Stroke) (rest : List Stroke) → is_out ls k.painting.loan ≡ true → undoable ls (ss ++ k ∷ rest) ≡ undoable ls rest ++ k ∷ undoable ls ss
   undoable_mid ss k rest o = undoable_append ss (k ∷ rest) ∙ ap (λ v. v ++ undoable ls ss) (undoable_cons k rest o) ∙ append_assoc (undoable ls rest) (k ∷ []) (undoable ls ss)
 
-  pub undoable_all : (P : Stroke → Type 0) (ss : List Stroke) → AllByRecursion P ss → AllByRecursion P (undoable ls ss)
-  undoable_all P ss h = all_reverse P (live ss) (all_kept_by (λ s. is_out ls s.painting.loan) P ss h)
+  pub undoable_all : (P : Stroke → Type 0) (ss : List Stroke) → All P ss → All P (undoable ls ss)
+  undoable_all P ss h = all_reverse P (live ss) (All-filter (λ s. is_out ls s.painting.loan) P ss h)
 
-  pub undoable_out : (ss : List Stroke) → AllByRecursion (λ (s : Stroke). is_out ls s.painting.loan ≡ true) (undoable ls ss)
-  undoable_out ss = all_reverse (λ (s : Stroke). is_out ls s.painting.loan ≡ true) (live ss) (live_out ss)
-    where
-      live_out : (v : List Stroke) → AllByRecursion (λ (s : Stroke). is_out ls s.painting.loan ≡ true) (live v)
-      live_out [] = tt
-      live_out (s ∷ v) = go (is_out ls s.painting.loan) refl (live_out v)
-        where
-          go : (b : Bool) → is_out ls s.painting.loan ≡ b → AllByRecursion (λ (x : Stroke). is_out ls x.painting.loan ≡ true) (live v) → AllByRecursion (λ (x : Stroke). is_out ls x.painting.loan ≡ true) (cond b (s ∷ live v) (live v))
-          go true e r = (e, r)
-          go false e r = r
+  pub undoable_out : (ss : List Stroke) → All (λ (s : Stroke). is_out ls s.painting.loan ≡ true) (undoable ls ss)
+  undoable_out ss =
+      all_reverse (λ (s : Stroke). is_out ls s.painting.loan ≡ true) (live ss) (filter_passes (λ s. is_out ls s.painting.loan) ss)
 
   -- a stroke laid
   pub paint_file : (opening : List ℕ) (k : Stroke) (ss : List Stroke) → k.place + stroke_length k ≤ length opening
@@ -194,20 +198,21 @@ module _ (ls : List Loan) where
     none_front : (ss : List Stroke) (s : Split (stroke_of n) ss) → None (stroke_of n) (undoable ls s.front)
     none_front ss s = undoable_all (λ k. stroke_of n k ≡ false) s.front s.none
 
-    even_parts : (ss : List Stroke) (s : Split (stroke_of n) ss) → AllByRecursion (Sized opening) ss → AllByRecursion Even (undoable ls s.back ++ s.at ∷ undoable ls s.front)
-    even_parts ss s sized = subst (AllByRecursion Even) (split_undoable ss s) (undoable_all Even ss (All-weaker (Sized opening) Even (λ k z. z.0) ss sized))
+    even_parts : (ss : List Stroke) (s : Split (stroke_of n) ss) → All (Sized opening) ss → All Even (undoable ls s.back ++ s.at ∷ undoable ls s.front)
+    even_parts ss s sized = subst (All Even) (split_undoable ss s) (undoable_all Even ss (All-weaker (Sized opening) Even (λ k z. z.0) ss sized))
 
     -- the bytes under the newest stroke of a loan put back
-    put_back : (ss : List Stroke) (s : Split (stroke_of n) ss) → Sound opening ls ss → AllByRecursion (Sized opening) ss
+    put_back : (ss : List Stroke) (s : Split (stroke_of n) ss) → Sound opening ls ss → All (Sized opening) ss
         → paste (bytes_under opening ss 0 (length opening)) s.at.place s.at.below (stroke_length s.at) ≡ bytes_under opening (less_first (stroke_of n) ss) 0 (length opening)
     put_back ss s sound sized =
-        let size : Sized opening s.at = (all_right (Sized opening) s.front (s.at ∷ s.back) (subst (AllByRecursion (Sized opening)) s.is sized)).0 in
+        let parts : All (Sized opening) (s.front ++ s.at ∷ s.back) = subst (All (Sized opening)) s.is sized in
+        let size : Sized opening s.at = All-head (Sized opening) s.at s.back (all_right (Sized opening) s.front (s.at ∷ s.back) parts) in
         ap (λ v. paste (bytes_under opening v 0 (length opening)) s.at.place s.at.below (stroke_length s.at)) s.is
         ∙ (undone opening ls n out s.at s.passes s.back s.front s.none (subst (Sound opening ls) s.is sound) size
         ∙ ap (λ v. bytes_under opening v 0 (length opening)) (sym (split_less (stroke_of n) ss s)))
 
     -- the newest stroke of a loan taken back
-    pub undo_stock : (mm mb : ℕ) (ss : List Stroke) → Split (stroke_of n) ss → AllByRecursion (Sized opening) ss
+    pub undo_stock : (mm mb : ℕ) (ss : List Stroke) → Split (stroke_of n) ss → All (Sized opening) ss
         → undone_stock (shelved mm mb (undoable ls ss)) n ≡ shelved mm mb (undoable ls (less_first (stroke_of n) ss))
     undo_stock mm mb ss s sized =
         let older : List Stroke = undoable ls s.back in
@@ -218,7 +223,7 @@ module _ (ls : List Loan) where
         ∙ ((λ i. record { marks = ms i; bytes = ks i; most_marks = mm; most_bytes = mb })
         ∙ ap (shelved mm mb) (sym (less_undoable ss s)))
 
-    pub undo_file : (ss : List Stroke) → Split (stroke_of n) ss → Sound opening ls ss → AllByRecursion (Sized opening) ss
+    pub undo_file : (ss : List Stroke) → Split (stroke_of n) ss → Sound opening ls ss → All (Sized opening) ss
         → file_back n (bytes_under opening ss 0 (length opening)) (map mark_of (undoable ls ss)) (all_below (undoable ls ss)) ≡ bytes_under opening (less_first (stroke_of n) ss) 0 (length opening)
     undo_file ss s sound sized =
         let file : List ℕ = bytes_under opening ss 0 (length opening) in
@@ -240,7 +245,7 @@ module _ (ls : List Loan) where
         × Sound opening ls v
 
     -- one step of taking all back
-    restored_step : (ss : List Stroke) (s : Split (stroke_of n) ss) → Sound opening ls ss → AllByRecursion (Sized opening) ss
+    restored_step : (ss : List Stroke) (s : Split (stroke_of n) ss) → Sound opening ls ss → All (Sized opening) ss
         → (let v : List Stroke = less_first (stroke_of n) ss in
         restored n (bytes_under opening ss 0 (length opening)) (map mark_of (undoable ls ss)) (all_below (undoable ls ss))
         ≡ restored n (bytes_under opening v 0 (length opening)) (map mark_of (undoable ls v)) (all_below (undoable ls v)))
@@ -251,7 +256,7 @@ module _ (ls : List Loan) where
         ∙ ap₂ (λ (f : List ℕ) (v : List Stroke). restored n f (map mark_of v) (all_below v)) (put_back ss s sound sized) (sym (less_undoable ss s)))
 
     -- all strokes of a loan taken back, the newest first
-    pub cancel_file : (c : ℕ) (ss : List Stroke) → marks_of n (map mark_of (undoable ls ss)) ≡ c → Sound opening ls ss → AllByRecursion (Sized opening) ss → Cancels ss (less_all (stroke_of n) ss)
+    pub cancel_file : (c : ℕ) (ss : List Stroke) → marks_of n (map mark_of (undoable ls ss)) ≡ c → Sound opening ls ss → All (Sized opening) ss → Cancels ss (less_all (stroke_of n) ss)
     cancel_file zero ss e sound sized = go (split (stroke_of n) ss)
       where
         go : Split (stroke_of n) ss ⊎ None (stroke_of n) ss → Cancels ss (less_all (stroke_of n) ss)
@@ -264,7 +269,7 @@ module _ (ls : List Loan) where
         v : List Stroke
         v = less_first (stroke_of n) ss
 
-        go : (marks_of n (map mark_of (undoable ls v)) ≡ c → Sound opening ls v → AllByRecursion (Sized opening) v → Cancels v (less_all (stroke_of n) v))
+        go : (marks_of n (map mark_of (undoable ls v)) ≡ c → Sound opening ls v → All (Sized opening) v → Cancels v (less_all (stroke_of n) v))
             → Split (stroke_of n) ss ⊎ None (stroke_of n) ss → Cancels ss (less_all (stroke_of n) ss)
         go later (inr none) = absurd (omega (arith, count_no ss none))
         go later (inl s) =

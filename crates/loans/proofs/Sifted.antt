@@ -14,7 +14,7 @@ use Rattle.loans.specs.Taking.{no_mark}
 use Rattle.loans.specs.Ending.{bytes_of, stock_without}
 use Rattle.loans.specs.Sifting.{Leads, CanSlide, stock_slid}
 use Rattle.loans.proofs.Listed.{less_all_none}
-use Rattle.loans.proofs.Newest.{lengths_append}
+use Rattle.loans.proofs.Marks.{lengths_cons, lengths_append}
 use Rattle.loans.proofs.Searches.{none_all}
 
 pub length_slid : {X : Type 0} (xs : List X) (from n to : ℕ) → to ≤ from → from + n ≤ length xs → length (slid_down from n to xs) ≡ length xs
@@ -33,7 +33,7 @@ rest_append n [] ns ks = refl
 rest_append n (m ∷ ms) ns ks =
     let rest : rest_of n (ms ++ ns) (drop m.length ks) ≡ rest_of n ms (drop m.length ks) ++ rest_of n ns (drop (m.length + lengths ms) ks) =
     rest_append n ms ns (drop m.length ks) ∙ ap (λ y. rest_of n ms (drop m.length ks) ++ rest_of n ns y) (drop-drop (lengths ms) m.length ks) in
-    go (not (of_loan n m)) rest
+    go (not (of_loan n m)) rest ∙ ap (λ i. rest_of n (m ∷ ms) ks ++ rest_of n ns (drop i ks)) (sym (lengths_cons m ms))
   where
     go : (b : Bool) → rest_of n (ms ++ ns) (drop m.length ks) ≡ rest_of n ms (drop m.length ks) ++ rest_of n ns (drop (m.length + lengths ms) ks)
         → cond b (take m.length ks ++ rest_of n (ms ++ ns) (drop m.length ks)) (rest_of n (ms ++ ns) (drop m.length ks))
@@ -46,7 +46,8 @@ rest_append n (m ∷ ms) ns ks =
 -- of other loans' marks all bytes stay
 rest_others : (n : ℕ) (ms : List Mark) (ks : List ℕ) → list_any (of_loan n) ms ≡ false → rest_of n ms ks ≡ take (lengths ms) ks
 rest_others n [] ks h = refl
-rest_others n (m ∷ ms) ks h = go (of_loan n m) h (rest_others n ms (drop m.length ks))
+rest_others n (m ∷ ms) ks h =
+    go (of_loan n m) h (rest_others n ms (drop m.length ks)) ∙ ap (λ i. take i ks) (sym (lengths_cons m ms))
   where
     go : (b : Bool) → (b || list_any (of_loan n) ms) ≡ false → (list_any (of_loan n) ms ≡ false → rest_of n ms (drop m.length ks) ≡ take (lengths ms) (drop m.length ks))
         → cond (not b) (take m.length ks ++ rest_of n ms (drop m.length ks)) (rest_of n ms (drop m.length ks)) ≡ take (m.length + lengths ms) ks

@@ -1,14 +1,14 @@
 -- What makes undo right: a stroke of a loan that is out still knows the bytes below it, and whatever other loans painted since lies elsewhere.
 use Rattle.std.proofs.Common.{◌≡◌, ℕ, ◌+◌, ◌<◌, ◌≤◌, true, false, ◌⊎◌, List, [], ◌∷◌, ◌++◌, length, get_or, sym, refl, ap, ◌∙◌, inl, inr, arith}
 use lib.Seq.{paste}
-use Rattle.std.specs.List.{AllByRecursion}
-use Rattle.std.proofs.ByRecursion.{All-weaker}
+use Rattle.std.specs.List.{All}
+use Rattle.std.proofs.lemmas.List.Elements.{All-nil, All-cons, All-head, All-tail, All-weaker}
 use Rattle.std.proofs.lemmas.List.FromFn.{get_or-map-range_with_len}
 use Rattle.std.proofs.lemmas.Bool.{eqb-true, eqb-false, cases_Bool}
 use Rattle.loans.specs.declared.ledger.Loan.{Loan}
 use Rattle.loans.specs.Stocks.{is_out}
 use Rattle.loans.specs.History.{Stroke, covers, stroke_of, stroke_length, byte_under, bytes_under}
-use Rattle.loans.proofs.Listed.{all_right, all_without, all_both, None}
+use Rattle.loans.proofs.Listed.{all_right, all_without, all_both, None, none_head, none_tail}
 use Rattle.loans.proofs.Underneath.{same_values, pasted, covers_from, covers_not, byte_without, byte_past}
 
 -- two strokes share no byte
@@ -27,7 +27,7 @@ Spares os k j = is_out os j.painting.loan ≡ true → (j.painting.loan ≡ k.pa
 abbrev pub Sound : List ℕ → List Loan → List Stroke → Type 0
 Sound opening os [] = Unit {0}
 Sound opening os (k ∷ ss) =
-    (is_out os k.painting.loan ≡ true → k.below ≡ bytes_under opening ss k.place (stroke_length k)) × AllByRecursion (Spares os k) ss × Sound opening os ss
+    (is_out os k.painting.loan ≡ true → k.below ≡ bytes_under opening ss k.place (stroke_length k)) × All (Spares os k) ss × Sound opening os ss
 
 pub not_covers : (s : Stroke) (i : ℕ) → (covers s i ≡ true → ⊥) → covers s i ≡ false
 not_covers s i h = go (cases_Bool (covers s i))
@@ -45,10 +45,15 @@ out_of os n k e h = rw (eqb-true n k.painting.loan e) at h
 
 module _ (opening : List ℕ) where
   -- where fewer loans are out
-  pub sound_fewer : (os os' : List Loan) (ss : List Stroke) → AllByRecursion (λ s. is_out os' s.painting.loan ≡ true → is_out os s.painting.loan ≡ true) ss → Sound opening os ss → Sound opening os' ss
+  pub sound_fewer : (os os' : List Loan) (ss : List Stroke) → All (λ s. is_out os' s.painting.loan ≡ true → is_out os s.painting.loan ≡ true) ss → Sound opening os ss → Sound opening os' ss
   sound_fewer os os' [] h s = tt
   sound_fewer os os' (k ∷ ss) h s =
-      (λ o. s.0 (h.0 o), all_both _ _ (Spares os' k) (λ j f g o. g (f o)) ss h.1 s.1, sound_fewer os os' ss h.1 s.2)
+      let P : Stroke → Type 0 = λ s. is_out os' s.painting.loan ≡ true → is_out os s.painting.loan ≡ true in
+      let rest : All P ss = All-tail P k ss h in (
+        λ o. s.0 (All-head P k ss h o),
+        all_both P (Spares os k) (Spares os' k) (λ j f g o. g (f o)) ss rest s.1,
+        sound_fewer os os' ss rest s.2,
+      )
 
   pub sound_back : (os : List Loan) (ss rest : List Stroke) → Sound opening os (ss ++ rest) → Sound opening os rest
   sound_back os [] rest s = s
@@ -56,10 +61,12 @@ module _ (opening : List ℕ) where
 
   module _ (os : List Loan) (n : ℕ) (out : is_out os n ≡ true) (k : Stroke) (of-n : stroke_of n k ≡ true) (rest : List Stroke) where
     -- what is newer than the newest of a loan spares it
-    pub front_clear : (ss : List Stroke) → None (stroke_of n) ss → Sound opening os (ss ++ k ∷ rest) → AllByRecursion (Clear k) ss
-    front_clear [] h s = tt
+    pub front_clear : (ss : List Stroke) → None (stroke_of n) ss → Sound opening os (ss ++ k ∷ rest) → All (Clear k) ss
+    front_clear [] h s = All-nil (Clear k)
     front_clear (a ∷ ss) h s =
-        ((all_right (Spares os a) ss (k ∷ rest) s.1).0 (out_of os n k of-n out) (other_loan n k a of-n h.0), front_clear ss h.1 s.2)
+        let clear = All-head (Spares os a) k rest (all_right (Spares os a) ss (k ∷ rest) s.1) in
+        All-cons (Clear k) a ss (clear (out_of os n k of-n out) (other_loan n k a of-n (none_head (stroke_of n) a ss h)))
+        (front_clear ss (none_tail (stroke_of n) a ss h) s.2)
 
     -- without the newest of a loan all is sound
     pub sound_less : (ss : List Stroke) → None (stroke_of n) ss → Sound opening os (ss ++ k ∷ rest) → Sound opening os (ss ++ rest)
@@ -67,11 +74,11 @@ module _ (opening : List ℕ) where
     sound_less (a ∷ ss) h s = (
       λ o. s.0 o ∙ same_values _ _ a.place (stroke_length a) (λ i b c. byte_without opening ss k rest i (not_covers k i (λ d. clear i d (covers_from a i b c)))),
       all_without (Spares os a) ss k rest s.1,
-      sound_less ss h.1 s.2,
+      sound_less ss (none_tail (stroke_of n) a ss h) s.2,
     )
       where
         clear : Clear k a
-        clear = (front_clear (a ∷ ss) h s).0
+        clear = All-head (Clear k) a ss (front_clear (a ∷ ss) h s)
 
     -- what it kept put back gives the bytes without it
     pub undone : (ss : List Stroke) → None (stroke_of n) ss → Sound opening os (ss ++ k ∷ rest) → Sized opening k
@@ -83,7 +90,7 @@ module _ (opening : List ℕ) where
         in_part : (i : ℕ) → i < stroke_length k → get_or k.below i 0 ≡ byte_under opening (ss ++ rest) (k.place + i)
         in_part i b =
             let at : ℕ = k.place + i in
-            let past : AllByRecursion (λ a. covers a at ≡ false) ss = All-weaker _ (λ a. covers a at ≡ false) (λ a c. not_covers a at (c at (covers_from k at (omega arith) (omega arith)))) ss (front_clear ss h s) in
+            let past : All (λ a. covers a at ≡ false) ss = All-weaker (Clear k) (λ a. covers a at ≡ false) (λ a c. not_covers a at (c at (covers_from k at (omega arith) (omega arith)))) ss (front_clear ss h s) in
             ap (λ bs. get_or bs i 0) ((sound_back os ss (k ∷ rest) s).0 (out_of os n k of-n out))
             ∙ get_or-map-range_with_len (byte_under opening rest) k.place (stroke_length k) i at 0 b refl
             ∙ sym (byte_past opening ss rest at past)

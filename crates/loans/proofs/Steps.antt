@@ -1,8 +1,8 @@
 -- A call that is carried out leaves what the history tells, and keeps the invariant.
 use Rattle.std.proofs.Common.{◌≡◌, ℕ, suc, ◌+◌, ◌<◌, ◌≤◌, Bool, true, false, not, ◌||◌, eqb, ltb, leb, ◌⊎◌, List, [], ◌∷◌, ◌++◌, map, length, take, drop, Some, None, sym, refl, ap, ◌∙◌, subst, ap₂, inl, inr, arith}
 use lib.Seq.{paste}
-use Rattle.std.specs.List.{AllByRecursion}
-use Rattle.std.proofs.ByRecursion.{All-weaker}
+use Rattle.std.specs.List.{All}
+use Rattle.std.proofs.lemmas.List.Elements.{All-cons, All-weaker}
 use Rattle.std.proofs.lemmas.List.{length-map, length-append, map_push}
 use Rattle.std.proofs.lemmas.Bool.{not-false, or_parts, leb-false, ltb-false, eqb-false, eqb-true, ne_eqb}
 use Rattle.dds.specs.declared.area.Area.{Area}
@@ -34,7 +34,7 @@ use Rattle.loans.proofs.Ours.{plain_book, state_of, told_by}
 -- the invariant, with every stroke ever laid and the counts of keeps and cancels
 pub record Fine (t : Table) (mm mb : ℕ) (opening : List ℕ) (ls os : List Loan) (keeps cancels : ℕ) (ss old : List Stroke) : Type 0 where
   pub good : Good t mm mb opening ls os ss
-  pub rows : AllByRecursion (InRow ls) old
+  pub rows : All (InRow ls) old
   pub balance : length ls ≡ keeps + cancels + length os
 
 -- what a call leaves
@@ -196,7 +196,9 @@ module _ (y : Layout) (number mm mb : ℕ) (opening : List ℕ) (ls os : List Lo
             (paint_file os opening stroke ss laid.sized.1) (paint_stock os mm mb opening stroke ss h.out refl laid.sized.1);
         fine = record {
           good = good_paint t mm mb opening ls os ss fine.good lawful p h.out h.some h.low h.short h.one_more h.more;
-          rows = (laying_row t mm mb opening ls os ss fine.good lawful p h.out h.some h.low h.short h.whose, fine.rows);
+          rows =
+              All-cons (InRow ls) stroke old
+              (laying_row t mm mb opening ls os ss fine.good lawful p h.out h.some h.low h.short h.whose) fine.rows;
           balance = fine.balance;
         };
       }
@@ -208,7 +210,7 @@ module _ (y : Layout) (number mm mb : ℕ) (opening : List ℕ) (ls os : List Lo
       out : is_out os n ≡ true
       out = (undo_says n who e).0
 
-      sized : AllByRecursion (Sized opening) ss
+      sized : All (Sized opening) ss
       sized = all_sized opening ls ss fine.good.laid
 
       go : Split (stroke_of n) ss ⊎ NoneOf (stroke_of n) ss → Next y number mm mb opening (carried_out here (undo n who)) ls os keeps cancels (less_first (stroke_of n) ss) old

@@ -2,6 +2,7 @@
 use Rattle.std.proofs.Common.{◌≡◌, ℕ, zero, suc, ◌+◌, ◌<◌, ◌≤◌, Bool, true, false, cond, ◌&&◌, eqb, ◌≢◌, List, [], ◌∷◌, length, get_or, drop, set, sym, refl, ap, ◌∙◌, subst, ⊎_elim, arith, length-set, get_or-set_other, get_or-set_same}
 use Rattle.std.specs.List.{list_all, zip}
 use Rattle.std.proofs.lemmas.List.{at_drop_more, at_drop_all}
+use Rattle.std.proofs.lemmas.List.Sums.{count_by-le-length}
 use Rattle.std.proofs.lemmas.Bool.{eqb-true, and_parts, cases_order, cond-true, cond-false, eq-eqb, ne_eqb, and_left, and_right}
 use Rattle.loans.specs.declared.ledger.Loan.{Loan}
 use Rattle.loans.specs.declared.mark.Mark.{Mark}
@@ -10,14 +11,10 @@ use Rattle.loans.specs.Stocks.{marks_of, lengths, is_sound, all_sound, of_loan, 
 use Rattle.loans.specs.Finding.{StandsAt}
 use Rattle.loans.specs.Tallies.{Tally, agree}
 use Rattle.loans.specs.Taking.{no_mark}
+use Rattle.loans.proofs.Marks.{marks_from, lengths_from}
 
 pub marks_few : (n : ℕ) (ms : List Mark) → marks_of n ms ≤ length ms
-marks_few n [] = omega arith
-marks_few n (m ∷ ms) = go (of_loan n m) (marks_few n ms)
-  where
-    go : (b : Bool) → marks_of n ms ≤ length ms → cond b (suc (marks_of n ms)) (marks_of n ms) ≤ suc (length ms)
-    go true h = omega arith
-    go false h = omega arith
+marks_few n ms = count_by-le-length (of_loan n) ms
 
 -- counts that begin at zero
 abbrev are_zero : List ℕ → Bool
@@ -63,11 +60,11 @@ module _ {ls : List Loan} {ms : List Mark} {n : ℕ} where
       sound_step = at_drop_more (all_sound ls) ms i no_mark inside ∙ ap (λ x. is_sound ls x && all_sound ls (drop (i + 1) ms)) here
 
       length_step : lengths (drop i ms) ≡ m.length + lengths (drop (i + 1) ms)
-      length_step = at_drop_more lengths ms i no_mark inside ∙ ap (λ (x : Mark). x.length + lengths (drop (i + 1) ms)) here
+      length_step = lengths_from ms i no_mark inside ∙ ap (λ (x : Mark). x.length + lengths (drop (i + 1) ms)) here
 
       marks_step : (x : ℕ) → marks_of x (drop i ms) ≡ cond (of_loan x m) (suc (marks_of x (drop (i + 1) ms))) (marks_of x (drop (i + 1) ms))
       marks_step x =
-          at_drop_more (marks_of x) ms i no_mark inside
+          marks_from x ms i no_mark inside
           ∙ ap (λ y. cond (of_loan x y) (suc (marks_of x (drop (i + 1) ms))) (marks_of x (drop (i + 1) ms))) here
 
       pub unsound : is_sound ls m ≡ false → (all_sound ls ms && eqb (lengths ms) n) ≡ false

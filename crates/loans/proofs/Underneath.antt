@@ -1,7 +1,8 @@
 -- What bytes a paste leaves, and what strokes lay.
 use Rattle.std.proofs.Common.{◌≡◌, ℕ, ◌+◌, ◌-◌, ◌<◌, ◌≤◌, true, false, cond, ◌⊎◌, List, [], ◌∷◌, ◌++◌, map, length, get_or, take, drop, sym, refl, ap, ◌∙◌, inl, inr, arith}
 use lib.Seq.{paste}
-use Rattle.std.specs.List.{between, range_with_len, AllByRecursion}
+use Rattle.std.specs.List.{between, range_with_len, All}
+use Rattle.std.proofs.lemmas.List.Elements.{All-tail}
 use Rattle.std.proofs.lemmas.List.{ext_get_or, length-append, get_or_append_left, get_or-append_right, get_or-take, get_or-drop, length-take-le}
 use Rattle.std.proofs.lemmas.List.FromFn.{length-map-range_with_len, get_or-map-range_with_len}
 use Rattle.std.proofs.lemmas.List.Edits.{length-paste, length-between, get_or-between}
@@ -99,6 +100,8 @@ module _ (opening : List ℕ) where
   byte_without [] k rest i e = rw e
   byte_without (s ∷ ss) k rest i e = ap (λ x. cond (covers s i) (get_or s.painting.laid (i - s.place) 0) x) (byte_without ss k rest i e)
 
-  pub byte_past : (ss rest : List Stroke) (i : ℕ) → AllByRecursion (λ s. covers s i ≡ false) ss → byte_under opening (ss ++ rest) i ≡ byte_under opening rest i
+  pub byte_past : (ss rest : List Stroke) (i : ℕ) → All (λ s. covers s i ≡ false) ss → byte_under opening (ss ++ rest) i ≡ byte_under opening rest i
   byte_past [] rest i h = refl
-  byte_past (s ∷ ss) rest i h = rw h.0 (byte_past ss rest i h.1)
+  byte_past (s ∷ ss) rest i h =
+      let clear : covers s i ≡ false = h 0 s (omega arith) in
+      rw clear (byte_past ss rest i (All-tail (λ a. covers a i ≡ false) s ss h))

@@ -1,12 +1,14 @@
 -- What an undo that is carried out takes back and leaves.
-use Rattle.std.proofs.Common.{◌≡◌, ℕ, zero, suc, ◌+◌, ◌-◌, ◌<◌, ◌≤◌, Bool, true, false, cond, ◌&&◌, eqb, leb, ◌≢◌, List, [], ◌∷◌, ◌++◌, length, get_or, take, drop, sym, refl, ap, ◌∙◌, arith, ◌||◌}
+use Rattle.std.proofs.Common.{◌≡◌, ℕ, zero, suc, ◌+◌, ◌-◌, ◌<◌, ◌≤◌, Bool, true, false, cond, ◌&&◌, eqb, leb, ◌≢◌, Some, List, [], ◌∷◌, ◌++◌, length, get_or, take, drop, sym, refl, ap, ◌∙◌, arith, ◌||◌}
+use Rattle.std.specs.List.{find}
+use Rattle.std.specs.Option.{unwrap_or}
 use Rattle.std.proofs.lemmas.Bool.{false≢true, cond-true, cond-false, and_parts, leb-true, eqb-true, ne_eqb}
 use Rattle.dds.specs.declared.area.Area.{Area}
 use Rattle.loans.specs.declared.ledger.Loan.{Loan}
 use Rattle.loans.specs.declared.mark.Mark.{Mark}
 use Rattle.loans.specs.Books.{no_loan, NumbersRise}
 use Rattle.loans.specs.Jobs.{Book, Orderly}
-use Rattle.loans.specs.Stocks.{Stock, is_out, the_loan, of_loan, marks_of, lengths, are_ours, is_sound, all_sound, lies_in}
+use Rattle.loans.specs.Stocks.{Stock, is_number, is_out, the_loan, of_loan, marks_of, lengths, are_ours, is_sound, all_sound, lies_in}
 use Rattle.loans.specs.Strokes.{State, state_of, HeldAt, undone_stock, recounted}
 use Rattle.loans.specs.Taking.{no_mark, NewestAt, file_less, stock_less, UndoAt}
 use Rattle.loans.specs.Ending.{InFile}
@@ -17,7 +19,8 @@ use Rattle.loans.proofs.Counting.{out_inside}
 use Rattle.loans.proofs.Recounting.{counted_at}
 use Rattle.loans.proofs.Allowed.{ours, may_undo}
 use Rattle.loans.proofs.Painted.{recounts}
-use Rattle.loans.proofs.Newest.{lengths_append, parts, undone_stock_lem, undone_file}
+use Rattle.loans.proofs.Marks.{marks_cons, marks_append, lengths_cons, lengths_append}
+use Rattle.loans.proofs.Newest.{parts, undone_stock_lem, undone_file}
 
 pub sound_at : (ls : List Loan) (ms : List Mark) → all_sound ls ms ≡ true → (k : ℕ) → k < length ms → is_sound ls (get_or ms k no_mark) ≡ true
 sound_at ls [] h k f = absurd (omega arith)
@@ -33,15 +36,6 @@ sound_end ls m e =
     let lies = (and_parts (is_out ls m.loan) (lies_in a m) out).1 in
     leb-true (m.place + m.length) (a.place + a.length) (and_parts (leb a.place m.place) (leb (m.place + m.length) (a.place + a.length)) lies).1
 
-pub marks_append : (n : ℕ) (ms ns : List Mark) → marks_of n (ms ++ ns) ≡ marks_of n ms + marks_of n ns
-marks_append n [] ns = omega arith
-marks_append n (m ∷ ms) ns = go (of_loan n m) (marks_append n ms ns)
-  where
-    go : (b : Bool) → marks_of n (ms ++ ns) ≡ marks_of n ms + marks_of n ns
-        → cond b (suc (marks_of n (ms ++ ns))) (marks_of n (ms ++ ns)) ≡ cond b (suc (marks_of n ms)) (marks_of n ms) + marks_of n ns
-    go true e = omega (arith, e)
-    go false e = e
-
 -- how many marks of a loan stand with and without the one at a position
 module _ (st : Stock) (n k begin : ℕ) (at : NewestAt st.marks n k begin) (x : ℕ) where
   abbrev front : List Mark
@@ -52,6 +46,7 @@ module _ (st : Stock) (n k begin : ℕ) (at : NewestAt st.marks n k begin) (x : 
 
   count_with : marks_of x st.marks ≡ marks_of x front + cond (of_loan x (get_or st.marks k no_mark)) (suc (marks_of x behind)) (marks_of x behind)
   count_with = ap (marks_of x) (parts n k begin st at) ∙ marks_append x front (get_or st.marks k no_mark ∷ behind)
+      ∙ ap (λ y. marks_of x front + y) (marks_cons x (get_or st.marks k no_mark) behind)
 
   count_without : marks_of x (stock_less st k begin).marks ≡ marks_of x front + marks_of x behind
   count_without = marks_append x front behind
@@ -81,6 +76,7 @@ undo_at s n who k position begin held newest =
     let is : the_loan ls m.loan ≡ get_or ls k no_loan = ap (the_loan ls) (sym of-n) ∙ held.loan.found in
     let in-file = out_inside s.book held.orderly k held.loan.inside _ is in
     let all = ap lengths (parts n position begin v newest) ∙ lengths_append (take position v.marks) (m ∷ drop (position + 1) v.marks) in
+    let this = lengths_cons m (drop (position + 1) v.marks) in
     record {
       none = held.next _ ∙ cond-false (eqb (marks_of n v.marks) 0) _ _ (ne_eqb _ _ (λ e. omega arith));
       loan = held.loan;
@@ -142,7 +138,7 @@ out_somewhere [] n h = absurd (false≢true h)
 out_somewhere (l ∷ ls) n h = go (eqb n l.number) h (out_somewhere ls n)
   where
     go : (b : Bool) → (b || is_out ls n) ≡ true → (is_out ls n ≡ true → (j : ℕ) × ((j < length ls) × (the_loan ls n ≡ get_or ls j no_loan)))
-        → (j : ℕ) × ((j < suc (length ls)) × (cond b l (the_loan ls n) ≡ get_or (l ∷ ls) j no_loan))
+        → (j : ℕ) × ((j < suc (length ls)) × (unwrap_or (cond b (Some l) (find (is_number n) ls)) no_loan ≡ get_or (l ∷ ls) j no_loan))
     go true e later = (0, (omega arith, refl))
     go false e later = let r = later e in (suc r.0, (omega (arith, r.1.0), r.1.1))
 

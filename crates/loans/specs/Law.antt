@@ -1,6 +1,6 @@
 -- The law of loans and strokes: what holds after every list of calls on a newly opened job with two empty shelves.
 use Rattle.std.specs.Prelude.{◌≡◌, ℕ, ◌+◌, ◌*◌, ◌<◌, ◌≤◌, true, List, [], ◌∷◌, map, length, Some, Err, ◌≢◌, slice_index}
-use Rattle.std.specs.List.{AllByRecursion, Contains, flat_map}
+use Rattle.std.specs.List.{All, Contains, flat_map}
 use Rattle.refusal.specs.declared.Refusal.TheVariants.{OtherLength, ForeignShelves}
 use Rattle.dds.specs.declared.area.Area.{Area}
 use Rattle.dds.specs.declared.layout.Layout.{Layout}
@@ -95,7 +95,7 @@ pub record Law (y : Layout) (number most_marks most_bytes : ℕ) (opening : List
   pub layout : s.book.layout ≡ y
   -- its loans are those out, in the order in which they were granted, each with its count of strokes
   pub loans : s.book.outs ≡ map (counted_loan s.stock.marks) (out_in y.table h)
-  pub strokes : AllByRecursion (CountsMarks s.stock.marks) s.book.outs
+  pub strokes : All (CountsMarks s.stock.marks) s.book.outs
   -- it counts the loans that were granted, kept and cancelled
   pub granted : s.book.granted ≡ length (lent y.table h)
   pub kept : s.book.kept ≡ keeps_in h
@@ -106,13 +106,13 @@ pub record Law (y : Layout) (number most_marks most_bytes : ℕ) (opening : List
   pub byte_count : s.book.bytes ≡ length s.stock.bytes
   -- each call was answered by the rules, never as if file or shelves were another's
   pub answers : Answered y number most_marks most_bytes opening h
-  pub own : AllByRecursion TakenAsOwn h
+  pub own : All TakenAsOwn h
   -- the loans ever granted have the numbers 1, 2, 3 and so on
   pub numbers : NumberedFromOne (lent y.table h)
   -- each is of a piece that exists, and its area is the piece's, by the table and in the list of pieces
-  pub pieces : AllByRecursion (OfPiece y.table) (lent y.table h)
-  pub areas : AllByRecursion (OfListed y) (lent y.table h)
+  pub pieces : All (OfPiece y.table) (lent y.table h)
+  pub areas : All (OfListed y) (lent y.table h)
   -- no byte lies in two loans that are out
   pub apart : Apart (out_in y.table h)
   -- every stroke ever laid, also one taken back, lies in its row
-  pub rows : AllByRecursion (InRow (lent y.table h)) (ever_laid y.table opening h)
+  pub rows : All (InRow (lent y.table h)) (ever_laid y.table opening h)

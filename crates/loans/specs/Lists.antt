@@ -2,11 +2,6 @@
 use Rattle.std.specs.Prelude.{Bool, cond, not, List, [], ◌∷◌, filter}
 
 module _ {A : Type 0} where
-  -- the first of a list that passes a test, or what stands in for it
-  abbrev pub first_or : A → (A → Bool) → List A → A
-  first_or d p [] = d
-  first_or d p (x ∷ xs) = cond (p x) x (first_or d p xs)
-
   -- a list without the first element that passes a test
   abbrev pub less_first : (A → Bool) → List A → List A
   less_first p [] = []

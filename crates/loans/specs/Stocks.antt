@@ -1,11 +1,11 @@
 -- What stands on a job's shelves, and when the shelves are the job's.
-use Rattle.std.specs.Prelude.{◌≡◌, ℕ, suc, ◌+◌, ◌≤◌, max, Bool, true, cond, ◌&&◌, List, [], ◌∷◌, length, ◌==◌, nat_le}
-use Rattle.std.specs.List.{list_any, list_all}
+use Rattle.std.specs.Prelude.{◌≡◌, ℕ, ◌+◌, ◌≤◌, max, Bool, true, ◌&&◌, List, [], length, count_by, sum_by, ◌==◌, nat_le}
+use Rattle.std.specs.List.{list_any, list_all, find}
+use Rattle.std.specs.Option.{unwrap_or}
 use Rattle.shelf.specs.Held.{Held}
 use Rattle.dds.specs.declared.area.Area.{Area}
 use Rattle.loans.specs.declared.ledger.Loan.{Loan}
 use Rattle.loans.specs.declared.mark.Mark.{Mark}
-use Rattle.loans.specs.Lists.{first_or}
 use Rattle.loans.specs.Books.{no_loan}
 use Rattle.loans.specs.Jobs.{Book}
 
@@ -26,13 +26,6 @@ stock_on marks' bytes' =
       most_bytes = bytes'.most;
     }
 
--- what stands on the shelves is no more than they can hold, and each can hold at most 1,073,741,824
-pub record Fits (k : Stock) : Type 0 where
-  pub marks : length k.marks ≤ k.most_marks
-  pub bytes : length k.bytes ≤ k.most_bytes
-  pub marks_capped : k.most_marks ≤ 1073741824
-  pub bytes_capped : k.most_bytes ≤ 1073741824
-
 -- two shelves that hold nothing, and can hold so many marks and bytes
 abbrev pub empty_stock : ℕ → ℕ → Stock
 empty_stock most_marks' most_bytes' =
@@ -47,6 +40,13 @@ pub record SameRoom (old new : Stock) : Type 0 where
 abbrev pub answer_limit : Stock → ℕ
 answer_limit k = max 65535 k.most_marks
 
+-- what stands on the shelves is no more than they can hold, and each can hold at most 1,073,741,824
+pub record Fits (k : Stock) : Type 0 where
+  pub marks : length k.marks ≤ k.most_marks
+  pub bytes : length k.bytes ≤ k.most_bytes
+  pub marks_capped : k.most_marks ≤ 1073741824
+  pub bytes_capped : k.most_bytes ≤ 1073741824
+
 -- the loan has that number
 abbrev pub is_number : ℕ → Loan → Bool
 is_number n l = n == l.number
@@ -57,7 +57,7 @@ is_out ls n = list_any (is_number n) ls
 
 -- the first of the loans that has the number
 abbrev pub the_loan : List Loan → ℕ → Loan
-the_loan ls n = first_or no_loan (is_number n) ls
+the_loan ls n = unwrap_or (find (is_number n) ls) no_loan
 
 -- the mark is of a stroke of that loan
 abbrev pub of_loan : ℕ → Mark → Bool
@@ -65,13 +65,11 @@ of_loan n m = n == m.loan
 
 -- how many marks a loan has
 abbrev pub marks_of : ℕ → List Mark → ℕ
-marks_of n [] = 0
-marks_of n (m ∷ ms) = cond (of_loan n m) (suc (marks_of n ms)) (marks_of n ms)
+marks_of n ms = count_by (of_loan n) ms
 
 -- how many bytes the marks cover together
 abbrev pub lengths : List Mark → ℕ
-lengths [] = 0
-lengths (m ∷ ms) = m.length + lengths ms
+lengths ms = sum_by (λ (m : Mark). m.length) ms
 
 -- a mark does not reach outside an area
 abbrev pub lies_in : Area → Mark → Bool

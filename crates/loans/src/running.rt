@@ -74,6 +74,7 @@ impl Job {
 
     /// Makes one call that is given as a value. Refuses as the call's own method does. What the shelves can hold stays; the number
     /// that it answers is at most 65,535, or what the shelf of marks can hold where that is more.
+    #[tactic(auto, using(crate::proofs::Limits::called_room, crate::proofs::Limits::called_within))]
     pub fn carry_out(
         &mut self,
         file: &mut [u8],
@@ -87,9 +88,9 @@ impl Job {
         ensures limit { IfOk result (λ number. number ≤ answer_limit shelves.old) }
     {
         let answer = self.call(file, shelves, call, false);
-        // what holds of every job and of every shelf is told where it is looked into
-        let _job = &self.ledger;
-        let _marks = shelves.marks();
+        // what holds of every job and of all shelves bounds the number
+        let _ = &self.ledger;
+        let _ = &shelves.marks;
         answer
     }
 

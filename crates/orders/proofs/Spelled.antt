@@ -1,7 +1,7 @@
 -- Every order is read from its line, and a line that is read as an order is that order's.
 use Rattle.std.proofs.Common.{◌≡◌, ℕ, ◌<◌, ◌^◌, Bool, true, false, cond, eqb, List, [], ◌∷◌, ◌++◌, map, Some, None, Option, refl, sym, ap, ap₂, ◌∙◌, subst, inl, inr, arith, ◌⊎◌}
 use Rattle.std.proofs.lemmas.Bool.{eqb-true, ne_eqb, true≢false}
-use Rattle.std.proofs.lemmas.Option.{option_and_then_some}
+use Rattle.std.proofs.lemmas.Option.{option_and_then_some, same_Some, none-some}
 use Rattle.std.proofs.lemmas.List.Splits.{slice_split_at, slice_split_none, join_with_byte-slice_split}
 use Rattle.std.proofs.lemmas.List.Elements.{All-nil, All-cons, All-head, All-tail, All-append, All-map, All-weaker}
 use Rattle.std.proofs.lemmas.List.Sums.{AllPass-from_list_all}
@@ -99,12 +99,6 @@ order_again o h =
 
 -- ---- what is read is spelled so
 
-abbrev done : {A : Type 0} → A → Option A
-done x = Some x
-
-some_is : {A : Type 0} (x y : A) → done x ≡ done y → x ≡ y
-some_is x y e = cc
-
 -- a number that was read
 record Took {A : Type 0} (w : List ℕ) (rest : ℕ → Option A) (y : A) : Type 0 where
   number : ℕ
@@ -123,8 +117,8 @@ cons_is x y xs ys e h = ap₂ (λ (z : List ℕ) (zs : List (List ℕ)). z ∷ z
 abbrev pub WordsOf : List (List ℕ) → Wording → Type 0
 WordsOf ws o = (ws ≡ words o) × IsOrder o
 
-as_order : (ws : List (List ℕ)) (o t : Wording) → done o ≡ done t → WordsOf ws o → WordsOf ws t
-as_order ws o t e h = subst (WordsOf ws) (some_is o t e) h
+as_order : (ws : List (List ℕ)) (o t : Wording) → Some o ≡ Some t → WordsOf ws o → WordsOf ws t
+as_order ws o t e h = subst (WordsOf ws) (same_Some o t e) h
 
 loan_takes : (ws : List (List ℕ)) (t : Wording) → loan_at ws ≡ Some t → WordsOf ((76 ∷ []) ∷ ws) t
 loan_takes [] t h = absurd cc
@@ -220,12 +214,9 @@ order_takes line t h =
 
 -- no line spells two orders
 pub one_order : (a b : Wording) → IsOrder a → IsOrder b → spelling a ≡ spelling b → a ≡ b
-one_order a b h k e = some_is a b (sym (order_again a h) ∙ ap order_at e ∙ order_again b k)
+one_order a b h k e = same_Some a b (sym (order_again a h) ∙ ap order_at e ∙ order_again b k)
 
 -- what parsing answers
 pub parsed : (line : List ℕ) (o : Option Order) → option_map as_worded o ≡ order_at line → Parsed line (ok_or o MalformedOrder)
-parsed line None e = (refl, λ t h same. unread (e ∙ ap order_at same ∙ order_again t h))
-  where
-    unread : {t : Wording} → None ≡ done t → ⊥
-    unread e = absurd cc
+parsed line None e = (refl, λ t h same. none-some t (e ∙ ap order_at same ∙ order_again t h))
 parsed line (Some o) e = order_takes line (as_worded o) (sym e)

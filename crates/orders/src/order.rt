@@ -21,33 +21,46 @@ use refusal::Refusal;
 pub enum Order<'a> {
     /// `L element level slice borrower`
     Loan {
+        /// the piece to lend
         piece: Piece,
+        /// who borrows
         borrower: u32,
     },
     /// `L element borrower`, of the element's first piece
     LoanElement {
+        /// the element whose first piece is lent
         element: u32,
+        /// who borrows
         borrower: u32,
     },
     /// `P loan borrower row first digits`
     Paint {
+        /// the loan's number
         loan: u32,
+        /// who paints
         borrower: u32,
+        /// the row of the piece, from 0 on
         row: u32,
+        /// the row's byte where the stroke begins, from 0 on
         first: u32,
+        /// the bytes to lay
         digits: Digits<'a>,
     },
     /// `U loan borrower`
     Undo {
+        /// the loan's number
         loan: u32,
+        /// who takes a stroke back
         borrower: u32,
     },
     /// `K loan`
     Keep {
+        /// the loan's number
         loan: u32,
     },
     /// `C loan`
     Cancel {
+        /// the loan's number
         loan: u32,
     },
 }

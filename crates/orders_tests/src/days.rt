@@ -77,27 +77,14 @@ fn without_the_keep(rt: HostRuntime) -> Result<(), Fail> {
 
 // A kept stroke ships; what a loan that is still out had painted is put back by the scrap, and the kept stroke is not.
 #[test]
+#[rattlefmt::skip]
 fn strokes_that_stand(rt: HostRuntime) -> Result<(), Fail> {
     let file = tiny(rt.alloc())?;
     let kept = b"L 0 1 0 7\nP 1 7 0 6 4142\nK 1";
     let after = b"abcdefghijklmnABqrstuvwx";
-    check_day(
-        &rt,
-        &file,
-        kept,
-        Ending::Shipped,
-        b"ok 1\nok 1\nok 0\n",
-        after,
-    )?;
+    check_day(&rt, &file, kept, Ending::Shipped, b"ok 1\nok 1\nok 0\n", after)?;
     let out = b"L 0 1 0 7\nP 1 7 0 6 4142\nK 1\nL 0 7\nP 2 7 0 0 4344\n";
-    check_day(
-        &rt,
-        &file,
-        out,
-        Ending::Scrapped,
-        b"ok 1\nok 1\nok 0\nok 2\nok 1\n",
-        after,
-    )
+    check_day(&rt, &file, out, Ending::Scrapped, b"ok 1\nok 1\nok 0\nok 2\nok 1\n", after)
 }
 
 #[test]
@@ -176,6 +163,7 @@ fn strokes(heap: Global, lengths: &[usize]) -> Result<Vec<u8>, Fail> {
 
 // The shelf has space for 4,096 kept bytes, and for none more.
 #[test]
+#[rattlefmt::skip]
 fn most_kept_bytes(rt: HostRuntime) -> Result<(), Fail> {
     let mut pixels = Vec::new(rt.alloc());
     pixels.resize(5000, b'a')?;
@@ -184,11 +172,7 @@ fn most_kept_bytes(rt: HostRuntime) -> Result<(), Fail> {
         (&[4096], b"ok 1\nok 1\nok 0\n", 4096),
         (&[4097], b"ok 1\nno 20\nok 0\n", 0),
         (&[4095, 1, 1], b"ok 1\nok 1\nok 2\nno 20\nok 0\n", 4095),
-        (
-            &[4000, 97, 96, 1],
-            b"ok 1\nok 1\nno 20\nok 2\nno 20\nok 0\n",
-            4000,
-        ),
+        (&[4000, 97, 96, 1], b"ok 1\nok 1\nno 20\nok 2\nno 20\nok 0\n", 4000),
     ];
     for (lengths, answers, painted) in days {
         let orders = strokes(rt.alloc(), lengths)?;

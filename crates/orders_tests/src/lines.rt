@@ -57,37 +57,15 @@ const MALFORMED: &[&[u8]] = &[
 ];
 
 #[test]
+#[rattlefmt::skip]
 fn spelled(rt: HostRuntime) {
     // no constant, which cannot hold an order today
     let orders: [(&[u8], Order<'static>); 5] = [
-        (
-            b"L 5 10 0 4294967295",
-            Order::Loan {
-                piece: PIECE,
-                borrower: 4_294_967_295,
-            },
-        ),
-        (
-            b"L 0 7",
-            Order::LoanElement {
-                element: 0,
-                borrower: 7,
-            },
-        ),
-        (
-            b"U 65535 0",
-            Order::Undo {
-                loan: 65535,
-                borrower: 0,
-            },
-        ),
+        (b"L 5 10 0 4294967295", Order::Loan { piece: PIECE, borrower: 4_294_967_295 }),
+        (b"L 0 7", Order::LoanElement { element: 0, borrower: 7 }),
+        (b"U 65535 0", Order::Undo { loan: 65535, borrower: 0 }),
         (b"K 1", Order::Keep { loan: 1 }),
-        (
-            b"C 1000000000",
-            Order::Cancel {
-                loan: 1_000_000_000,
-            },
-        ),
+        (b"C 1000000000", Order::Cancel { loan: 1_000_000_000 }),
     ];
     for (line, order) in orders {
         assert_eq!(rt; Order::parse(line), Ok(order));

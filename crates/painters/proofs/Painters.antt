@@ -1,7 +1,8 @@
 -- Which strokes stand, read from the newest call to the oldest.
 use Rattle.std.proofs.Common.{◌≡◌, ℕ, zero, suc, ◌+◌, ◌-◌, ◌*◌, ◌<◌, ◌≤◌, min, Bool, true, false, cond, not, ◌&&◌, eqb, leb, ltb, ◌⊎◌, List, [], ◌∷◌, ◌++◌, map, length, get_or, take, drop, Some, None, Ok, Err, Option, Result, sym, refl, ap, ◌∙◌, subst, inl, inr, ⊎_elim, arith, ◌||◌}
-use Rattle.std.specs.List.{list_any, AllByRecursion, fold, zip}
-use Rattle.std.proofs.ByRecursion.{All-weaker}
+use Rattle.std.specs.List.{list_any, All, find, fold, zip}
+use Rattle.std.specs.Option.{unwrap_or}
+use Rattle.std.proofs.lemmas.List.Elements.{All-nil, All-cons, All-head, All-tail, All-weaker}
 use Rattle.std.proofs.lemmas.List.{drop_more, at_drop_all}
 use Rattle.std.proofs.lemmas.List.Sums.{fold-append}
 use Rattle.std.proofs.lemmas.Bool.{true≢false, and_parts, and_from, leb-true, ltb-true, le-leb, lt-ltb, cases_lt, eqb-true, eq-eqb, ne_eqb, cond-true, cond-false}
@@ -14,7 +15,7 @@ use Rattle.dds.specs.Places.{exists_in, area_in, AreaOf}
 use Rattle.loans.specs.declared.call.Call.{Call}
 use Rattle.loans.specs.declared.ledger.Loan.{Loan}
 use Rattle.painters.specs.declared.Painter.{Painter}
-use Rattle.loans.specs.Lists.{first_or, less_first, less_all}
+use Rattle.loans.specs.Lists.{less_first, less_all}
 use Rattle.loans.specs.Books.{no_loan}
 use Rattle.loans.specs.Stocks.{Stock, is_number, is_out, the_loan}
 use Rattle.loans.specs.Strokes.{stroke_place}
@@ -25,7 +26,7 @@ use Rattle.loans.specs.Lending.{granting}
 use Rattle.loans.specs.History.{Event, Stroke, written_down, history_of, lent, out_in, stroke_of, reach_over, covers, laying, standing, ever_laid}
 use Rattle.loans.specs.Law.{OfPiece, OfListed, InRow}
 use Rattle.painters.specs.Tracing.{newest_over, paid_off, owing_more, owes_nothing, owed_before, owed, unless_out, piece_after, piece_out, area_for, painter_by, no_call, no_answer, past_of, painter_at, IsNewest, NewestPainter, begin_of, LiesOver, PaintedBy, IsRun, Traced}
-use Rattle.loans.proofs.Outs.{out_less}
+use Rattle.loans.proofs.Outs.{out_less, loan_less}
 use Rattle.loans.proofs.Searches.{some_append, first_none}
 use Rattle.loans.proofs.Runs.{law_run, standing_all, lent_all}
 
@@ -153,21 +154,11 @@ abbrev PieceFound : Table → ℕ → List Loan → Option Piece → Type 0
 PieceFound t n ls None = is_out ls n ≡ false
 PieceFound t n ls (Some p) = OutAs t n p ls
 
-first_append : {A : Type 0} (d : A) (p : A → Bool) (xs ys : List A) → first_or d p (xs ++ ys) ≡ cond (list_any p xs) (first_or d p xs) (first_or d p ys)
+first_append : {A : Type 0} (d : A) (p : A → Bool) (xs ys : List A) → unwrap_or (find p (xs ++ ys)) d ≡ cond (list_any p xs) (unwrap_or (find p xs) d) (unwrap_or (find p ys) d)
 first_append d p [] ys = refl
 first_append d p (x ∷ xs) ys =
-    elim (p x) as (λ b. cond b x (first_or d p (xs ++ ys)) ≡ cond (b || list_any p xs) (cond b x (first_or d p xs)) (first_or d p ys)) [ true ↦ refl | false ↦ first_append d p xs ys ]
-
-loan_less : (ls : List Loan) (m n : ℕ) → eqb m n ≡ false → the_loan (less_all (is_number m) ls) n ≡ the_loan ls n
-loan_less [] m n ne = refl
-loan_less (l ∷ ls) m n ne = go (eqb m l.number) refl (loan_less ls m n ne)
-  where
-    go : (b : Bool) → eqb m l.number ≡ b → the_loan (less_all (is_number m) ls) n ≡ the_loan ls n
-        → the_loan (cond (not b) (l ∷ less_all (is_number m) ls) (less_all (is_number m) ls)) n ≡ cond (eqb n l.number) l (the_loan ls n)
-    go true e rest =
-        let other : eqb n l.number ≡ false = ne_eqb n l.number (λ f. true≢false (sym (eq-eqb m n (eqb-true m l.number e ∙ sym f)) ∙ ne)) in
-        rest ∙ sym (cond-false (eqb n l.number) l (the_loan ls n) other)
-    go false e rest = ap (λ (x : Loan). cond (eqb n l.number) l x) rest
+    elim (p x) as (λ b. unwrap_or (cond b (Some x) (find p (xs ++ ys))) d
+    ≡ cond (b || list_any p xs) (unwrap_or (cond b (Some x) (find p xs)) d) (unwrap_or (find p ys) d)) [ true ↦ refl | false ↦ first_append d p xs ys ]
 
 found_lent : (t : Table) (n : ℕ) (ls : List Loan) (o : Option Piece) (x : ℕ) (p : Piece) (who : ℕ) → exists_in t p ≡ true → PieceFound t n ls o
     → PieceFound t n (ls ++ granting x p who (area_in t p) ∷ []) (unless_out o (eqb n x) p)
@@ -186,7 +177,10 @@ found_lent t n ls None x p who exists f = go (eqb n x) refl
     go true e =
         record {
           out = some_append (is_number n) ls new ∙ cond-false _ _ _ f ∙ ap (λ b. b || false) e;
-          area = ap (λ (l : Loan). l.area) (first_append no_loan (is_number n) ls new ∙ cond-false _ _ _ f ∙ cond-true _ _ _ e);
+          area =
+              ap (λ (l : Loan). l.area)
+              (first_append no_loan (is_number n) ls new ∙ cond-false _ _ _ f
+              ∙ ap (λ b. unwrap_or (cond b (Some (granting x p who (area_in t p))) None) no_loan) e);
           exists = exists;
         }
     go false e = some_append (is_number n) ls new ∙ cond-false _ _ _ f ∙ ap (λ b. b || false) e
@@ -200,29 +194,25 @@ found_ended t n ls o m f = go (eqb m n) refl o f
     go false e (Some p) g =
         record {
           out = out_less ls m n ∙ rw (g.out, e) refl;
-          area = ap (λ (l : Loan). l.area) (loan_less ls m n e) ∙ g.area;
+          area = ap (λ (l : Loan). l.area) (loan_less ls m n (λ f. true≢false (sym (eq-eqb m n (sym f)) ∙ e))) ∙ g.area;
           exists = g.exists;
         }
 
 -- loans that were granted before are among those granted
-pub pieces_before : (t : Table) (d : Deed) (r : Result ℕ Refusal) (h : List Event) → AllByRecursion (OfPiece t) (lent t (record { call = d; answer = r } ∷ h)) → AllByRecursion (OfPiece t) (lent t h)
+pub pieces_before : (t : Table) (d : Deed) (r : Result ℕ Refusal) (h : List Event) → All (OfPiece t) (lent t (record { call = d; answer = r } ∷ h)) → All (OfPiece t) (lent t h)
 pieces_before t d (Err e) h a = a
-pieces_before t (lend p who) (Ok x) h a = a.1
-pieces_before t (paint p) (Ok x) h a = a
-pieces_before t (undo m who) (Ok x) h a = a
-pieces_before t (keep m) (Ok x) h a = a
-pieces_before t (cancel m) (Ok x) h a = a
+pieces_before t (lend p who) (Ok x) h a = All-tail (OfPiece t) _ _ a
+pieces_before t d (Ok x) h a = a
 
-found_after : (t : Table) (n : ℕ) (d : Deed) (r : Result ℕ Refusal) (h : List Event) → AllByRecursion (OfPiece t) (lent t (record { call = d; answer = r } ∷ h))
+found_after : (t : Table) (n : ℕ) (d : Deed) (r : Result ℕ Refusal) (h : List Event) → All (OfPiece t) (lent t (record { call = d; answer = r } ∷ h))
     → PieceFound t n (out_in t h) (piece_out n h) → PieceFound t n (out_in t (record { call = d; answer = r } ∷ h)) (piece_after n (piece_out n h) d r)
 found_after t n d (Err e) h a f = f
-found_after t n (lend p who) (Ok x) h a f = found_lent t n (out_in t h) (piece_out n h) x p who a.0.0 f
-found_after t n (paint p) (Ok x) h a f = f
-found_after t n (undo m who) (Ok x) h a f = f
+found_after t n (lend p who) (Ok x) h a f = found_lent t n (out_in t h) (piece_out n h) x p who (All-head (OfPiece t) _ _ a).0 f
 found_after t n (keep m) (Ok x) h a f = found_ended t n (out_in t h) (piece_out n h) m f
 found_after t n (cancel m) (Ok x) h a f = found_ended t n (out_in t h) (piece_out n h) m f
+found_after t n d (Ok x) h a f = f
 
-found : (t : Table) (n : ℕ) (h : List Event) → AllByRecursion (OfPiece t) (lent t h) → PieceFound t n (out_in t h) (piece_out n h)
+found : (t : Table) (n : ℕ) (h : List Event) → All (OfPiece t) (lent t h) → PieceFound t n (out_in t h) (piece_out n h)
 found t n [] a = refl
 found t n (e ∷ h) a = found_after t n e.call e.answer h a (found t n h (pieces_before t e.call e.answer h a))
 
@@ -244,17 +234,16 @@ newest_first s ss place false true e = refl
 newest_first s ss place false false e = refl
 
 -- one call further back
-pub walk_one : (t : Table) (opening : List ℕ) (h : List Event) (o : Owes) (place : ℕ) (d : Deed) (r : Result ℕ Refusal) → AllByRecursion (OfPiece t) (lent t h)
+pub walk_one : (t : Table) (opening : List ℕ) (h : List Event) (o : Owes) (place : ℕ) (d : Deed) (r : Result ℕ Refusal) → All (OfPiece t) (lent t h)
     → newest_over (survivors o (standing t opening (record { call = d; answer = r } ∷ h))) place
     ≡ or_else (painter_by t (λ n. piece_out n h) o place d r) (newest_over (survivors (λ m. owed_before m (o m) d r) (standing t opening h)) place)
 walk_one t opening h o place d (Err e) a = refl
-walk_one t opening h o place (lend p who) (Ok x) a = refl
 walk_one t opening h o place (paint p) (Ok x) a =
     newest_first (laying opening (out_in t h) (standing t opening h) p) (survivors (pay p.loan o) (standing t opening h)) place (owes_nothing (o p.loan)) _
     (ap (λ (v : Area). reach_over (stroke_place v p) (length p.laid) place) (area_is t p.loan (out_in t h) (piece_out p.loan h) (found t p.loan h a)))
 walk_one t opening h o place (undo m who) (Ok x) a = ap (λ ss. newest_over ss place) (survive_undo m o (standing t opening h))
-walk_one t opening h o place (keep m) (Ok x) a = refl
 walk_one t opening h o place (cancel m) (Ok x) a = ap (λ ss. newest_over ss place) (survive_cancel m o (standing t opening h))
+walk_one t opening h o place d (Ok x) a = refl
 
 written_more : (h : List Event) (cs : List Call) (rs : List (Result ℕ Refusal)) (k : ℕ) (dc : Call) (dr : Result ℕ Refusal) → k < length cs → k < length rs
     → written_down h (map deed_of (take (suc k) cs)) (take (suc k) rs)
@@ -338,11 +327,8 @@ is_some (Some k) = true
 
 gone_before : (n : ℕ) (d : Deed) (r : Result ℕ Refusal) → owed_before n None d r ≡ None
 gone_before n d (Err e) = refl
-gone_before n (lend p who) (Ok x) = refl
-gone_before n (paint p) (Ok x) = refl
-gone_before n (undo m who) (Ok x) = refl
-gone_before n (keep m) (Ok x) = refl
 gone_before n (cancel m) (Ok x) = elim (eqb m n) as (λ b. cond {A = Option ℕ} b None None ≡ None) [ true ↦ refl | false ↦ refl ]
+gone_before n d (Ok x) = refl
 
 gone_all : (n : ℕ) (cs : List Call) (rs : List (Result ℕ Refusal)) (k : ℕ) → owed n (drop k cs) (drop k rs) ≡ None → owed n cs rs ≡ None
 gone_all n cs rs zero e = e
@@ -403,7 +389,7 @@ pub record PlacedSo (y : Layout) (s : Stroke) : Type 0 where
   pub listed : AreaOf y s.piece (area_in y.table s.piece)
 
 -- a stroke in a row of a loan's piece does
-placed_row : (y : Layout) (ls : List Loan) → AllByRecursion (OfPiece y.table) ls → AllByRecursion (OfListed y) ls → (s : Stroke) → InRow ls s → PlacedSo y s
+placed_row : (y : Layout) (ls : List Loan) → All (OfPiece y.table) ls → All (OfListed y) ls → (s : Stroke) → InRow ls s → PlacedSo y s
 placed_row y ls pieces areas s r =
     let l : Loan = the_loan ls s.painting.loan in
     let by_table : l.area ≡ area_in y.table l.piece = (lent_all (OfPiece y.table) ls s.painting.loan pieces r.lent).1 in
@@ -414,22 +400,25 @@ placed_row y ls pieces areas s r =
     }
 
 -- the newest stroke over a byte, by numbers
-painted_by : (y : Layout) (ss : List Stroke) (i : ℕ) → AllByRecursion (PlacedSo y) ss → PaintedBy y ss i (newest_over ss i)
-painted_by y [] i h = tt
-painted_by y (s ∷ ss) i h = go (painted_by y ss i h.1) (covers s i) refl
+painted_by : (y : Layout) (ss : List Stroke) (i : ℕ) → All (PlacedSo y) ss → PaintedBy y ss i (newest_over ss i)
+painted_by y [] i h = All-nil (λ k. LiesOver y.table k i → ⊥)
+painted_by y (s ∷ ss) i h = go (painted_by y ss i (All-tail (PlacedSo y) s ss h)) (covers s i) refl
   where
     Free : Stroke → Type 0
     Free k = LiesOver y.table k i → ⊥
 
+    placed : PlacedSo y s
+    placed = All-head (PlacedSo y) s ss h
+
     free : covers s i ≡ false → Free s
     free e o =
-        let at = h.0.place in
+        let at = placed.place in
         let low = o.0 in
         let high = o.1 in
         true≢false (sym (and_from _ _ (le-leb s.place i (omega arith)) (lt-ltb i (s.place + length s.painting.laid) (omega arith))) ∙ e)
 
     more : covers s i ≡ false → (r : Option Painter) → PaintedBy y ss i r → PaintedBy y (s ∷ ss) i r
-    more e None n = (free e, n)
+    more e None n = All-cons Free s ss (free e) n
     more e (Some p) n = record {
       newer = s ∷ n.newer;
       stroke = n.stroke;
@@ -438,7 +427,7 @@ painted_by y (s ∷ ss) i h = go (painted_by y ss i h.1) (covers s i) refl
       loan = n.loan;
       borrower = n.borrower;
       over = n.over;
-      none_newer = (free e, n.none_newer);
+      none_newer = All-cons Free s n.newer (free e) n.none_newer;
       listed = n.listed;
     }
 
@@ -447,7 +436,7 @@ painted_by y (s ∷ ss) i h = go (painted_by y ss i h.1) (covers s i) refl
         let parts = and_parts (leb s.place i) (ltb i (s.place + length s.painting.laid)) e in
         let low : s.place ≤ i = leb-true s.place i parts.0 in
         let high : i < s.place + length s.painting.laid = ltb-true i (s.place + length s.painting.laid) parts.1 in
-        let at : s.place ≡ begin_of y.table s = h.0.place in
+        let at : s.place ≡ begin_of y.table s = placed.place in
         record {
           newer = [];
           stroke = s;
@@ -456,14 +445,14 @@ painted_by y (s ∷ ss) i h = go (painted_by y ss i h.1) (covers s i) refl
           loan = refl;
           borrower = refl;
           over = (omega arith, omega arith);
-          none_newer = tt;
-          listed = h.0.listed;
+          none_newer = All-nil Free;
+          listed = placed.listed;
         }
     go rest false e = more e (newest_over ss i) rest
 
 -- of a run the law has it that the loans are of pieces that exist, and that each stroke lies in a row of its loan's piece
 traced : (y : Layout) (ds : List Deed) (rs : List (Result ℕ Refusal)) (place : ℕ) (r : Option Painter)
-    → (AllByRecursion (OfPiece y.table) (lent y.table (history_of ds rs)) → NewestPainter y.table ds rs place r) → Traced y ds rs place r
+    → (All (OfPiece y.table) (lent y.table (history_of ds rs)) → NewestPainter y.table ds rs place r) → Traced y ds rs place r
 traced y ds rs place r newest = record { run = of_run; placed = placed_in; pieces = newest }
   where
     -- of the answers to a run
@@ -473,14 +462,14 @@ traced y ds rs place r newest = record { run = of_run; placed = placed_in; piece
 
     of_run : (number : ℕ) (file : List ℕ) (k : Stock) → IsRun y number file k ds rs → NewestPainter y.table ds rs place r
     of_run number file k is =
-        newest (at_run (λ x. AllByRecursion (OfPiece y.table) (lent y.table (history_of ds x))) number file k is (law_run y number file k ds is.length is.marks is.bytes).pieces)
+        newest (at_run (λ x. All (OfPiece y.table) (lent y.table (history_of ds x))) number file k is (law_run y number file k ds is.length is.marks is.bytes).pieces)
 
-    all_placed : (number : ℕ) (file : List ℕ) (k : Stock) → IsRun y number file k ds rs → AllByRecursion (PlacedSo y) (standing y.table file (history_of ds rs))
+    all_placed : (number : ℕ) (file : List ℕ) (k : Stock) → IsRun y number file k ds rs → All (PlacedSo y) (standing y.table file (history_of ds rs))
     all_placed number file k is =
         let t : Table = y.table in
         let h : List Event = history_of ds (answers_to (opened_state y number file k) ds) in
         let law = law_run y number file k ds is.length is.marks is.bytes in
-        at_run (λ x. AllByRecursion (PlacedSo y) (standing t file (history_of ds x))) number file k is
+        at_run (λ x. All (PlacedSo y) (standing t file (history_of ds x))) number file k is
         (standing_all (PlacedSo y) t file h
         (All-weaker (InRow (lent t h)) (PlacedSo y) (placed_row y (lent t h) law.pieces law.areas) (ever_laid t file h) law.rows))
 
@@ -493,8 +482,8 @@ traced y ds rs place r newest = record { run = of_run; placed = placed_in; piece
 pub record Walked (t : Table) (cs : List Call) (rs : List (Result ℕ Refusal)) (place k : ℕ) : Type 0 where
   pub calls : k ≤ length cs
   pub answers : k ≤ length rs
-  pub pieces : AllByRecursion (OfPiece t) (lent t (history_of (map deed_of cs) rs)) → AllByRecursion (OfPiece t) (lent t (past_of cs rs k))
-  pub same : AllByRecursion (OfPiece t) (lent t (history_of (map deed_of cs) rs)) → (opening : List ℕ)
+  pub pieces : All (OfPiece t) (lent t (history_of (map deed_of cs) rs)) → All (OfPiece t) (lent t (past_of cs rs k))
+  pub same : All (OfPiece t) (lent t (history_of (map deed_of cs) rs)) → (opening : List ℕ)
       → newest_over (standing t opening (history_of (map deed_of cs) rs)) place
       ≡ newest_over (survivors (λ n. owed n (drop k cs) (drop k rs)) (standing t opening (past_of cs rs k))) place
 
@@ -503,7 +492,7 @@ walk_none t cs rs place k b i j =
     record {
       calls = i;
       answers = j;
-      pieces = λ a. subst (λ (h : List Event). AllByRecursion (OfPiece t) (lent t h)) (sym (past_all cs rs k b)) a;
+      pieces = λ a. subst (λ (h : List Event). All (OfPiece t) (lent t h)) (sym (past_all cs rs k b)) a;
       same = λ a opening.
           ap (λ (h : List Event). newest_over (standing t opening h) place) (sym (past_all cs rs k b))
           ∙ ap (λ (ss : List Stroke). newest_over ss place) (sym (survive_all (λ n. owed n (drop k cs) (drop k rs)) (standing t opening (past_of cs rs k)) (λ n. owed_all n cs rs k b)));
@@ -527,12 +516,12 @@ module _ (t : Table) (cs : List Call) (rs : List (Result ℕ Refusal)) (place j 
   in_answers : j < length rs
   in_answers = omega (arith, w.answers)
 
-  pieces_here : AllByRecursion (OfPiece t) (lent t (history_of (map deed_of cs) rs)) → AllByRecursion (OfPiece t) (lent t (past_of cs rs j))
+  pieces_here : All (OfPiece t) (lent t (history_of (map deed_of cs) rs)) → All (OfPiece t) (lent t (past_of cs rs j))
   pieces_here a =
       pieces_before t (deed_of (get_or cs j no_call)) (get_or rs j no_answer) (past_of cs rs j)
-      (subst (λ (h : List Event). AllByRecursion (OfPiece t) (lent t h)) (past_more cs rs j no_call no_answer in_calls in_answers) (w.pieces a))
+      (subst (λ (h : List Event). All (OfPiece t) (lent t h)) (past_more cs rs j no_call no_answer in_calls in_answers) (w.pieces a))
 
-  here_or_before : AllByRecursion (OfPiece t) (lent t (history_of (map deed_of cs) rs)) → (opening : List ℕ)
+  here_or_before : All (OfPiece t) (lent t (history_of (map deed_of cs) rs)) → (opening : List ℕ)
       → newest_over (standing t opening (history_of (map deed_of cs) rs)) place
       ≡ or_else (painter_at t cs rs j place) (newest_over (survivors (λ n. owed n (drop j cs) (drop j rs)) (standing t opening (past_of cs rs j))) place)
   here_or_before a opening =
@@ -544,7 +533,7 @@ module _ (t : Table) (cs : List Call) (rs : List (Result ℕ Refusal)) (place j 
       (same_owes (λ m. owed_before m (owes m) (deed_of (get_or cs j no_call)) (get_or rs j no_answer)) (λ n. owed n (drop j cs) (drop j rs)) (standing t opening (past_of cs rs j))
       (λ m. sym (owed_more m cs rs j no_call no_answer in_calls in_answers)))
 
-  found_here : (p : Painter) → Some p ≡ painter_at t cs rs j place → AllByRecursion (OfPiece t) (lent t (history_of (map deed_of cs) rs))
+  found_here : (p : Painter) → Some p ≡ painter_at t cs rs j place → All (OfPiece t) (lent t (history_of (map deed_of cs) rs))
       → NewestPainter t (map deed_of cs) rs place (Some p)
   found_here p e a opening =
       sym (here_or_before a opening

@@ -1,11 +1,12 @@
 -- Whose stroke lies over a byte, and how it is found without writing anything down.
 use Rattle.std.specs.Prelude.{◌≡◌, ℕ, ◌+◌, ◌-◌, ◌*◌, ◌≤◌, Bool, false, cond, ◌&&◌, List, [], ◌∷◌, ◌++◌, map, length, take, drop, Some, None, Ok, Err, Option, Result, MatchOption, ◌<◌, ◌==◌, slice_index_or}
-use Rattle.std.specs.List.{AllByRecursion}
+use Rattle.std.specs.List.{All}
 use Rattle.refusal.specs.declared.Refusal.{Refusal}
 use Rattle.dds.specs.declared.area.Area.{Area}
 use Rattle.dds.specs.declared.layout.Layout.{Layout}
 use Rattle.dds.specs.declared.piece.Piece.{Piece}
 use Rattle.dds.specs.declared.table.Table.{Table}
+use Rattle.dds.specs.Pieces.{piece_of}
 use Rattle.dds.specs.Places.{exists_in, area_in, AreaOf}
 use Rattle.loans.specs.declared.call.Call.{Call}
 use Rattle.painters.specs.declared.Painter.{Painter}
@@ -48,13 +49,13 @@ pub record NewestOver (y : Layout) (ss : List Stroke) (place : ℕ) (p : Painter
   pub loan : p.loan ≡ stroke.painting.loan
   pub borrower : p.borrower ≡ stroke.painting.borrower
   pub over : LiesOver y.table stroke place
-  pub none_newer : AllByRecursion (λ s. LiesOver y.table s place → ⊥) newer
+  pub none_newer : All (λ s. LiesOver y.table s place → ⊥) newer
   -- the numbers of its piece are those of the list of pieces
   pub listed : AreaOf y stroke.piece (area_in y.table stroke.piece)
 
 -- that painter laid the newest stroke over the byte; or none lies over it
 abbrev pub PaintedBy : Layout → List Stroke → ℕ → Option Painter → Type 0
-PaintedBy y ss place None = AllByRecursion (λ s. LiesOver y.table s place → ⊥) ss
+PaintedBy y ss place None = All (λ s. LiesOver y.table s place → ⊥) ss
 PaintedBy y ss place (Some p) = NewestOver y ss place p
 
 -- the answers are those to a run of the calls on a job just opened on a file, with two empty shelves
@@ -74,7 +75,7 @@ pub record Traced (y : Layout) (ds : List Deed) (rs : List (Result ℕ Refusal))
       → IsRun y number file k ds rs
       → PaintedBy y (standing y.table file (history_of ds rs)) place r
   -- by whatever calls and answers, as long as every loan granted is of a piece that exists
-  pub pieces : AllByRecursion (OfPiece y.table) (lent y.table (history_of ds rs))
+  pub pieces : All (OfPiece y.table) (lent y.table (history_of ds rs))
       → NewestPainter y.table ds rs place r
 
 -- Read from the newest call to the oldest, an undo owes one stroke of its loan, which the next stroke of the loan pays; a cancel
@@ -146,7 +147,7 @@ painter_by t pieces owes place d (Ok x) = None
 
 -- what is read where no call stands
 abbrev pub no_call : Call
-no_call = Call.Loan (record { element = 0; level = 0; slice = 0 }) 0
+no_call = Call.Loan (piece_of 0 0 0) 0
 
 -- what is read where no answer stands
 abbrev pub no_answer : Result ℕ Refusal

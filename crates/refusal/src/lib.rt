@@ -1,4 +1,4 @@
-// Why a call is turned down. A refusal leaves everything as it was, but that a refused scrap takes its docket; docs/REFUSALS.md has each
+// Why a call is turned down. A refusal leaves everything as it was, but that a refused scrap takes its docket; docs/RULES.md has each
 // number's meaning, the calls that give it, and the order in which they test.
 #![tactic(auto)]
 
@@ -15,32 +15,59 @@ mod tests;
 /// Why a call is turned down: a number for users and other programs, and a meaning in words.
 #[derive(Clone, Copy, PartialEq, Eq, Debug)]
 pub enum Refusal {
+    /// 1: file shorter than 128 or longer than 1073741824 bytes (open)
     WrongLength = 1,
+    /// 2: wrong first four bytes (open)
     WrongMagic,
+    /// 3: header size not 124, or pixel format size not 32 (open)
     WrongHeaderSize,
+    /// 4: extended header in fewer than 148 bytes (open)
     ShortExtendedHeader,
+    /// 5: unknown format (open with the format tables, never open with a family)
     UnknownFormat,
+    /// 6: no shape (open)
     NoShape,
+    /// 7: a side, a volume's depth or the number of elements out of range (open)
     OutOfRange,
+    /// 8: more levels than the longest chain (open)
     TooManyLevels,
+    /// 9: the last piece does not end at the file's end (open)
     WrongEnd,
+    /// 10: no such piece (where, show, loan)
     NoSuchPiece,
+    /// 11: place at or past the file's end (whose)
     PastFileEnd,
+    /// 12: the file's length is not the job's (show, paint, undo, cancel, scrap)
     OtherLength,
+    /// 13: the piece is out (loan)
     PieceOut,
+    /// 14: 32 loans are out (loan)
     TooManyLoans,
+    /// 15: 65535 loan numbers were given (loan)
     NumbersUsedUp,
+    /// 16: loan not out (paint, undo, keep, cancel)
     LoanNotOut,
+    /// 17: another borrower (paint, undo)
     OtherBorrower,
+    /// 18: shelves not the job's (paint, undo, keep, cancel, scrap)
     ForeignShelves,
+    /// 19: no bytes, no such row, or past the row's end (paint)
     OutsideRow,
+    /// 20: marks shelf full, or too little space on the kept shelf (paint)
     NoSpace,
+    /// 21: the loan has no stroke to take back (undo)
     NothingToUndo,
+    /// 22: docket of another number (ship, scrap)
     OtherDocket,
+    /// 23: loans are out (ship)
     LoansOut,
+    /// 24: shelf full (put, put all)
     ShelfFull,
+    /// 25: an end past the shelf's count (read, take off, part, slide, truncate)
     PastCount,
+    /// 26: malformed order line (order program, for a line)
     MalformedOrder,
+    /// 27: input over its limit (order program, for an input)
     OverLimit,
 }
 

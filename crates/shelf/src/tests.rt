@@ -114,16 +114,13 @@ fn take_off_closes_the_gap(rt: HostRuntime) -> Result<(), Fail> {
 }
 
 #[test]
+#[rattlefmt::skip]
 fn many_gaps_in_one_pass(rt: HostRuntime) -> Result<(), Fail> {
     run(
         &rt,
         &mut [0; 6],
         &[
-            (
-                Call::PutAll(&[1, 2, 3, 4, 5, 6]),
-                Ok(6),
-                &[1, 2, 3, 4, 5, 6],
-            ),
+            (Call::PutAll(&[1, 2, 3, 4, 5, 6]), Ok(6), &[1, 2, 3, 4, 5, 6]),
             (Call::Slide(2, 2, 1), Ok(6), &[1, 3, 4, 4, 5, 6]),
             (Call::Slide(5, 1, 3), Ok(6), &[1, 3, 4, 6, 5, 6]),
             (Call::Slide(1, 1, 2), PAST, &[1, 3, 4, 6, 5, 6]),
