@@ -17,7 +17,7 @@ mod tests;
 const MOST: usize = 1_073_741_824;
 
 /// A list of elements in lent memory, and the most elements that it can hold: as many as the memory holds, and at most
-/// 1,073,741,824. Each call that is handed one, or makes one, tells that it holds no more (`IsBounded`).
+/// 1,073,741,824. Each call tells that the shelf holds no more (`IsBounded`).
 #[derive(Drop)]
 pub struct Shelf<'a, T> {
     // lent, with a count beside it: a Vec would own its memory
@@ -132,6 +132,7 @@ impl<'a, T: Copy> Shelf<'a, T> {
         ensures inside { IsOk result ↔ (position + count ≤ length self.now.items) }
         ensures run { IfOk result (λ r. r.now ≡ take count (drop position self.now.items)) }
         ensures refusal { IfErr result (λ e. e ≡ PastCount) }
+        ensures bounded { IsBounded self.now }
     {
         if !self.has_run(position, count) {
             return Err(Refusal::PastCount);
@@ -144,6 +145,7 @@ impl<'a, T: Copy> Shelf<'a, T> {
         ensures inside { IsOk result ↔ (position < length self.now.items) }
         ensures element { IfOk result (λ x. slice_get self.now.items position ≡ Some x) }
         ensures refusal { IfErr result (λ e. e ≡ PastCount) }
+        ensures bounded { IsBounded self.now }
     {
         self.elements()
             .get(position)
