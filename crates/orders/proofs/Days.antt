@@ -5,6 +5,9 @@ use Rattle.formats.specs.declared.kinds.FormatName.{FormatName}
 use Rattle.formats.specs.Codes.{name_for, plain_rows}
 use Rattle.dds.specs.declared.header.Header.{Header}
 use Rattle.dds.specs.declared.layout.Layout.{Layout}
+use Rattle.dds.specs.declared.source.FormatSource.{FormatSource}
+use Rattle.dds.specs.Readings.{Reading, reading_of}
+use Rattle.dds.specs.Sources.{source_of}
 use Rattle.dds.specs.Headers.{header_read, header_name}
 use Rattle.dds.specs.Layouts.{OpenedIn, OpenedBy}
 use Rattle.dds.specs.Layouts as layouts
@@ -30,16 +33,16 @@ use Rattle.orders.specs.Days.{DayInputs, MasterOpened, empty_stock, answer_lines
 use Rattle.orders.specs.Steps.{LinesAnswered}
 
 -- a layout has its file's length
-by_name : (head : List ℕ) (n : ℕ) (name : Option FormatName) (y : Layout) → layouts.OpenedAs head n name (Ok y) → y.table.length ≡ n
-by_name head n None y h = absurd cc
-by_name head n (Some name) y h = h.table.length
+by_name : (x : Reading) (source : FormatSource) (name : Option FormatName) (y : Layout) → layouts.OpenedAs x source name (Ok y) → y.table.length ≡ x.length
+by_name x source None y h = absurd cc
+by_name x source (Some name) y h = h.table.length
 
-by_header : (head : List ℕ) (n : ℕ) (names : ℕ → Option FormatName) (r : Result Header Refusal) (y : Layout) → OpenedIn head n names r (Ok y) → y.table.length ≡ n
-by_header head n names (Err e) y h = absurd cc
-by_header head n names (Ok header) y h = by_name head n (header_name names header) y h
+by_header : (x : Reading) (names : ℕ → Option FormatName) (r : Result Header Refusal) (y : Layout) → OpenedIn x names r (Ok y) → y.table.length ≡ x.length
+by_header x names (Err e) y h = absurd cc
+by_header x names (Ok header) y h = by_name x (source_of header) (header_name names header) y h
 
-opened_length : (head : List ℕ) (n : ℕ) (names : ℕ → Option FormatName) (y : Layout) → OpenedBy head n names (Ok y) → y.table.length ≡ n
-opened_length head n names y h = by_header head n names (header_read head n) y h
+opened_length : (x : Reading) (names : ℕ → Option FormatName) (y : Layout) → OpenedBy x names (Ok y) → y.table.length ≡ x.length
+opened_length x names y h = by_header x names (header_read x) y h
 
 -- the program's job and shelves, just opened
 pub first_state : (g : DayInputs) (j : Job) (v : Shelves) (marks : Shelf Mark) (bytes : Shelf ℕ) (lent_marks : List Mark) (lent_bytes : List ℕ) → book_of j ≡ fresh_book j.layout.table (Some 1)
@@ -57,7 +60,7 @@ module _ (g : DayInputs) (y : Layout) (opened : MasterOpened g (Ok y)) where
   first = opened_state y.table 1 g.master empty_stock
 
   sized : length g.master ≡ y.table.length
-  sized = sym (opened_length (take 148 g.master) (length g.master) (name_for plain_rows) y opened)
+  sized = sym (opened_length (reading_of g.master) (name_for plain_rows) y opened)
 
   module _ (lines : List (List ℕ)) (s₀ s : State) (new : List ℕ) (same : s₀ ≡ first) (all : LinesAnswered lines s₀ g.before s new) where
     abbrev calls : List Deed

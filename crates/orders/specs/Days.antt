@@ -6,6 +6,7 @@ use Rattle.refusal.specs.declared.Refusal.{Refusal}
 use Rattle.refusal.specs.declared.Refusal.TheVariants.{MalformedOrder, OverLimit}
 use Rattle.formats.specs.Codes.{name_for, plain_rows}
 use Rattle.dds.specs.declared.layout.Layout.{Layout}
+use Rattle.dds.specs.Readings.{reading_of}
 use Rattle.dds.specs.Layouts.{OpenedBy}
 use Rattle.loans.specs.Stocks.{Stock}
 use Rattle.loans.specs.Strokes.{State}
@@ -68,7 +69,7 @@ room_for orders = if nat_lt LONGEST_ORDERS (length orders) then 0 else 6 * lengt
 
 -- what opening the texture answers
 abbrev pub MasterOpened : DayInputs → Result Layout Refusal → Type 0
-MasterOpened g r = OpenedBy (take 148 g.master) (length g.master) (name_for plain_rows) r
+MasterOpened g r = OpenedBy (reading_of g.master) (name_for plain_rows) r
 
 -- the program's shelves at first: they have room for 64 marks and 4,096 bytes
 abbrev pub empty_stock : Stock
