@@ -9,6 +9,7 @@ use Rattle.formats.specs.declared.kinds.FormatName.TheVariants.{Linear, Block}
 use Rattle.formats.specs.BitCounts.{is_set, are_plain}
 use Rattle.formats.specs.Codes.{name_for, plain_rows, dxgi_rows, name_in}
 use Rattle.dds.specs.declared.shape.Shape.TheVariants.{Line, Flat, Cube, Volume}
+use Rattle.dds.specs.Readings.{reading}
 use Rattle.dds.specs.Headers.{number_at, has_magic, header_of, header_read, is_extended, header_name}
 use Rattle.dds.specs.Levels.{levels_of}
 use Rattle.dds.specs.Shapes.{shape_of}
@@ -69,7 +70,7 @@ module _ (head : List ℕ) where
 
   -- a header that no refusal before that of its format turns down
   pub read_is : (n : ℕ) {w t l : ℕ} → Begins w t l head → 128 ≤ n → n ≤ 1073741824 → (IsPlain head ⊎ (148 ≤ n))
-      → header_read head n ≡ Ok (header_of head)
+      → header_read (reading head n) ≡ Ok (header_of head)
   unfolding header_of
   read_is n b short long kind =
       let long_enough : (is_extended (header_of head) && ltb n 148) ≡ false =

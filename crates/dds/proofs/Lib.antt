@@ -12,3 +12,4 @@ mod Spotting
 mod Numbering
 mod Fields
 mod Measured
+mod Letters

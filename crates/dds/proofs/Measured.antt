@@ -13,6 +13,8 @@ use Rattle.dds.specs.declared.layout.Layout.{Layout}
 use Rattle.dds.specs.declared.piece.Piece.{Piece}
 use Rattle.dds.specs.declared.shape.Shape.{Shape}
 use Rattle.dds.specs.declared.shape.Shape.TheVariants.{Line, Flat, Cube, Volume}
+use Rattle.dds.specs.Readings.{Reading, reading}
+use Rattle.dds.specs.Sources.{source_of}
 use Rattle.dds.specs.Headers.{header_of, header_read, header_name}
 use Rattle.dds.specs.Levels.{levels_of, side_at, longest_chain}
 use Rattle.formats.specs.Extents.{within}
@@ -89,37 +91,38 @@ module _ {w t l b : ℕ} {shape : Shape} {name : FormatName} (ok : fine w t l sh
         begin = begin i;
       }
 
-  module _ (head : List ℕ) (n : ℕ) (e : header_read head n ≡ Ok h) where
-    opened_with : (r : Result Layout Refusal) → OpenedBy head n (name_for plain_rows) r → Opened head n (row_bytes_of name) (rows_of name) r
+  module _ (x : Reading) (e : header_read x ≡ Ok h) where
+    opened_with : (r : Result Layout Refusal) → OpenedBy x (name_for plain_rows) r → Opened x (source_of h) (row_bytes_of name) (rows_of name) r
     opened_with r o =
-        subst (λ (x : Option FormatName). OpenedAs head n x r) s.name_is (subst (λ (x : Result Header Refusal). OpenedIn head n (name_for plain_rows) x r) e o)
+        subst (λ (y : Option FormatName). OpenedAs x (source_of h) y r) s.name_is
+        (subst (λ (y : Result Header Refusal). OpenedIn x (name_for plain_rows) y r) e o)
 
     -- such a file is accepted where its plan ends at its end
-    accepts : end_of (plan_for w t l b shape name) ≡ n → (P : Layout → Type 0)
-        → ((layout : Layout) → pieces_in layout ≡ pieces_of (plan_for w t l b shape name) → layout.table.length ≡ n → P layout)
-        → (r : Result Layout Refusal) → OpenedBy head n (name_for plain_rows) r → AcceptedWith P r
+    accepts : end_of (plan_for w t l b shape name) ≡ x.length → (P : Layout → Type 0)
+        → ((layout : Layout) → pieces_in layout ≡ pieces_of (plan_for w t l b shape name) → layout.table.length ≡ x.length → P layout)
+        → (r : Result Layout Refusal) → OpenedBy x (name_for plain_rows) r → AcceptedWith P r
     accepts end P k (Ok layout) o =
         let a = opened_with (Ok layout) o in
         k layout
-        ((fits_only (plan_of h shape (row_bytes_of name) (rows_of name)) n (pieces_in layout)
-        (fits_plan head n (row_bytes_of name) (rows_of name) h shape e shape_ok (pieces_in layout) a.fits)).0 ∙ ap pieces_of plan_is)
+        ((fits_only (plan_of h shape (row_bytes_of name) (rows_of name)) x.length (pieces_in layout)
+        (fits_plan x (row_bytes_of name) (rows_of name) h shape e shape_ok (pieces_in layout) a.fits)).0 ∙ ap pieces_of plan_is)
         a.table.length
-    accepts end P k (Err x) o =
-        let a = subst (λ (y : Option Refusal). Turned y x ((ps : List Placed) → Fits (header_of head) (row_bytes_of name) (rows_of name) n ps → ⊥))
-        (free head n (row_bytes_of name) (rows_of name) h shape e shape_ok) (opened_with (Err x) o) in
+    accepts end P k (Err d) o =
+        let a = subst (λ (y : Option Refusal). Turned y d ((ps : List Placed) → Fits x (row_bytes_of name) (rows_of name) ps → ⊥))
+        (free x (row_bytes_of name) (rows_of name) h shape e shape_ok) (opened_with (Err d) o) in
         let plan = plan_of h shape (row_bytes_of name) (rows_of name) in
-        absurd (a.1 (pieces_of plan) (plan_fits head n (row_bytes_of name) (rows_of name) h shape e shape_ok (pieces_of plan)
+        absurd (a.1 (pieces_of plan) (plan_fits x (row_bytes_of name) (rows_of name) h shape e shape_ok (pieces_of plan)
         (subst (λ m. FitsPlan plan m (pieces_of plan)) (ap end_of plan_is ∙ end) (pieces_fit plan))))
 
     -- and refused where it does not
-    refuses : (end_of (plan_for w t l b shape name) ≡ n → ⊥) → (r : Result Layout Refusal) → OpenedBy head n (name_for plain_rows) r → r ≡ Err WrongEnd
+    refuses : (end_of (plan_for w t l b shape name) ≡ x.length → ⊥) → (r : Result Layout Refusal) → OpenedBy x (name_for plain_rows) r → r ≡ Err WrongEnd
     refuses not_end (Ok layout) o =
         let a = opened_with (Ok layout) o in
-        absurd (not_end (sym ((fits_only (plan_of h shape (row_bytes_of name) (rows_of name)) n (pieces_in layout)
-        (fits_plan head n (row_bytes_of name) (rows_of name) h shape e shape_ok (pieces_in layout) a.fits)).1 ∙ ap end_of plan_is)))
-    refuses not_end (Err x) o =
-        let a = subst (λ (y : Option Refusal). Turned y x ((ps : List Placed) → Fits (header_of head) (row_bytes_of name) (rows_of name) n ps → ⊥))
-        (free head n (row_bytes_of name) (rows_of name) h shape e shape_ok) (opened_with (Err x) o) in
+        absurd (not_end (sym ((fits_only (plan_of h shape (row_bytes_of name) (rows_of name)) x.length (pieces_in layout)
+        (fits_plan x (row_bytes_of name) (rows_of name) h shape e shape_ok (pieces_in layout) a.fits)).1 ∙ ap end_of plan_is)))
+    refuses not_end (Err d) o =
+        let a = subst (λ (y : Option Refusal). Turned y d ((ps : List Placed) → Fits x (row_bytes_of name) (rows_of name) ps → ⊥))
+        (free x (row_bytes_of name) (rows_of name) h shape e shape_ok) (opened_with (Err d) o) in
         ap Err a.0
 
 abbrev entry_of : Plan → Piece → Placed
@@ -153,8 +156,8 @@ whose_past : (layout : Layout) (place : ℕ) → layout.table.length ≤ place �
 whose_past layout place past (Err x) o = ap Err o.0
 whose_past layout place past (Ok po) o = let below = o.0 in absurd (omega arith)
 
-refused : (head : List ℕ) (n : ℕ) (h : Header) (x : Refusal) → header_read head n ≡ Ok h → shape_read h ≡ Err x → refusal_of head n ≡ Some x
-refused head n h x e f = ap first_refusal e ∙ ap err_of f
+refused : (x : Reading) (h : Header) (d : Refusal) → header_read x ≡ Ok h → shape_read h ≡ Err d → refusal_of x ≡ Some d
+refused x h d e f = ap first_refusal e ∙ ap err_of f
 
 -- what the fields of the measured files say
 module _ (head : List ℕ) where
@@ -237,13 +240,13 @@ four_levels h shape has deep not_deep some few w t l =
 
 -- a header that was read, and is 16,385 wide or 4 by 4 with four levels
 module _ (head : List ℕ) (n : ℕ) (shape : Shape) (has : shape_of (header_of head) ≡ Some shape) where
-  wide : {t l : ℕ} → Begins 16385 t l head → header_read head n ≡ Ok (header_of head) → refusal_of head n ≡ Some OutOfRange
-  wide b e = refused head n (header_of head) OutOfRange e (too_wide (header_of head) shape has (width_of head b))
+  wide : {t l : ℕ} → Begins 16385 t l head → header_read (reading head n) ≡ Ok (header_of head) → refusal_of (reading head n) ≡ Some OutOfRange
+  wide b e = refused (reading head n) (header_of head) OutOfRange e (too_wide (header_of head) shape has (width_of head b))
 
-  many : Begins 4 4 4 head → header_read head n ≡ Ok (header_of head) → 1 ≤ depth_of shape → depth_of shape ≤ 7
-      → 1 ≤ elements_of shape → elements_of shape ≤ 2048 → refusal_of head n ≡ Some TooManyLevels
+  many : Begins 4 4 4 head → header_read (reading head n) ≡ Ok (header_of head) → 1 ≤ depth_of shape → depth_of shape ≤ 7
+      → 1 ≤ elements_of shape → elements_of shape ≤ 2048 → refusal_of (reading head n) ≡ Some TooManyLevels
   many b e deep not_deep some few =
-      refused head n (header_of head) TooManyLevels e
+      refused (reading head n) (header_of head) TooManyLevels e
       (four_levels (header_of head) shape has deep not_deep some few (width_of head b) (height_of head b) (levels_is head b))
 
 all_four_levels : FourLevels
@@ -276,17 +279,17 @@ all_too_wide = record {
 
 accepts_dxt1 : (head : List ℕ) → PlainDxt1 head → (P : Layout → Type 0)
     → ((layout : Layout) → pieces_in layout ≡ pieces_of (plan_for 256 64 9 128 (Flat 1) (Block 8)) → layout.table.length ≡ 11080 → P layout)
-    → (r : Result Layout Refusal) → OpenedBy head 11080 (name_for plain_rows) r → AcceptedWith P r
+    → (r : Result Layout Refusal) → OpenedBy (reading head 11080) (name_for plain_rows) r → AcceptedWith P r
 unfolding plan_for fine longest_chain
 accepts_dxt1 head k =
-    accepts refl (header_of head) (plain_dxt1 head k) head 11080 (read_is head 11080 k.0 (lit≤ tt) (lit≤ tt) (inl (dxt1_plain head k.1.0))) refl
+    accepts refl (header_of head) (plain_dxt1 head k) (reading head 11080) (read_is head 11080 k.0 (lit≤ tt) (lit≤ tt) (inl (dxt1_plain head k.1.0))) refl
 
 pub figures : Figures
 unfolding plan_for fine longest_chain
 figures = record {
-  plain = λ head k. accepts refl (header_of head) (plain_24 head k) head 262271 (read_is head 262271 k.0 (lit≤ tt) (lit≤ tt) (inl (bits_plain head k.1.0))) refl
+  plain = λ head k. accepts refl (header_of head) (plain_24 head k) (reading head 262271) (read_is head 262271 k.0 (lit≤ tt) (lit≤ tt) (inl (bits_plain head k.1.0))) refl
       (λ _. Unit {0}) (λ _ _ _. tt);
-  one_more = λ head k. refuses refl (header_of head) (plain_24 head k) head 262272 (read_is head 262272 k.0 (lit≤ tt) (lit≤ tt) (inl (bits_plain head k.1.0)))
+  one_more = λ head k. refuses refl (header_of head) (plain_24 head k) (reading head 262272) (read_is head 262272 k.0 (lit≤ tt) (lit≤ tt) (inl (bits_plain head k.1.0)))
       (λ end. omega arith);
   last_byte = λ head k. accepts_dxt1 head k (Whose 11063 (Ok (Some (image_of 6, 7))))
       (λ layout is n. whose_piece layout _ is (image_of 6) (lit< tt, lit< tt, lit< tt) 11063 7 refl (lit< tt));
@@ -296,14 +299,14 @@ figures = record {
       (λ layout is n. whose_header layout _ is 127 (lit< tt) (omega arith));
   past_end = λ head k. accepts_dxt1 head k (Whose 11080 (Err PastFileEnd))
       (λ layout is n. whose_past layout 11080 (omega arith));
-  extended = λ head k. accepts refl (header_of head) (extended_bc3 head k) head 22052 (read_is head 22052 k.0 (lit≤ tt) (lit≤ tt) (inr (lit≤ tt))) refl
+  extended = λ head k. accepts refl (header_of head) (extended_bc3 head k) (reading head 22052) (read_is head 22052 k.0 (lit≤ tt) (lit≤ tt) (inr (lit≤ tt))) refl
       (λ _. Unit {0}) (λ _ _ _. tt);
-  volume = λ head k. accepts refl (header_of head) (volume_24 head k) head 56447 (read_is head 56447 k.0 (lit≤ tt) (lit≤ tt) (inl (bits_plain head k.1.0))) refl
+  volume = λ head k. accepts refl (header_of head) (volume_24 head k) (reading head 56447) (read_is head 56447 k.0 (lit≤ tt) (lit≤ tt) (inl (bits_plain head k.1.0))) refl
       (λ layout. length (pieces_in layout) ≡ 11)
       (λ layout is n. ap length is ∙ pieces_length _);
-  cube = λ head k. accepts refl (header_of head) (cubes_bc6h head 1 k) head 524596 (read_is head 524596 k.0 (lit≤ tt) (lit≤ tt) (inr (lit≤ tt))) refl
+  cube = λ head k. accepts refl (header_of head) (cubes_bc6h head 1 k) (reading head 524596) (read_is head 524596 k.0 (lit≤ tt) (lit≤ tt) (inr (lit≤ tt))) refl
       (λ _. Unit {0}) (λ _ _ _. tt);
-  six_cubes = λ head k. refuses refl (header_of head) (cubes_bc6h head 6 k) head 524596 (read_is head 524596 k.0 (lit≤ tt) (lit≤ tt) (inr (lit≤ tt)))
+  six_cubes = λ head k. refuses refl (header_of head) (cubes_bc6h head 6 k) (reading head 524596) (read_is head 524596 k.0 (lit≤ tt) (lit≤ tt) (inr (lit≤ tt)))
       (λ end. omega arith);
   four_levels = all_four_levels;
   too_wide = all_too_wide;

@@ -11,7 +11,7 @@ use Rattle.dds.specs.declared.piece.Piece.{Piece}
 use Rattle.dds.specs.declared.layout.Layout.{Layout}
 use Rattle.dds.specs.declared.level.Level.{Level}
 use Rattle.dds.specs.declared.table.Table.{Table}
-use Rattle.dds.specs.Sound.{slices_in, size_in, plan_in, Counted, Chained}
+use Rattle.dds.specs.Sound.{slices_in, size_in, plan_in, Sound}
 use Rattle.dds.specs.Plans.{Plan, begin_at, stride_of}
 use Rattle.dds.specs.Pieces.{Placed, slices_from, levels_from, elements_from, pieces_of}
 use Rattle.dds.specs.Counts.{count_at, piece_numbered}
@@ -164,11 +164,11 @@ count_few s z (suc n) some =
 pub pieces_few : (layout : Layout) → layout.table.elements * count_at (slices_in layout.table) layout.table.level_count ≤ 1073741824
 pieces_few layout =
     let t = layout.table in
-    let few = count_few (slices_in t) (size_in t) t.level_count (λ k h. (layout.chained k h).1) in
+    let few = count_few (slices_in t) (size_in t) t.level_count layout.sound.sizes in
     let m = mul-le t.elements (count_at (slices_in t) t.level_count) t.elements (begin_at (slices_in t) (size_in t) t.level_count) (le_refl t.elements) few in
-    let a = layout.ended.1 in
-    let b = layout.ended.2 in
-    let c = layout.ended.3 in
+    let a = layout.sound.ends in
+    let b = layout.sound.inside in
+    let c = layout.sound.few_bytes in
     omega arith
 
 -- the slices of the first levels of a list, as a sum
@@ -188,12 +188,12 @@ count_within s k n h =
     let e : n - suc k + suc k ≡ n = omega arith in
     subst (λ m. count_at s (suc k) ≤ count_at s m) e (count_grows s (suc k) (n - suc k))
 
-module _ (t : Table) (counted : Counted t) (chained : Chained t) where
+module _ (t : Table) (sound : Sound t) where
   -- an element has a piece
   pub count_some : 1 ≤ count_at (slices_in t) t.level_count
   count_some =
-      let w = count_within (slices_in t) 0 t.level_count counted.0 in
-      let s = (chained 0 counted.0).0 in
+      let w = count_within (slices_in t) 0 t.level_count sound.some_levels in
+      let s = sound.slices 0 sound.some_levels in
       omega arith
 
   -- a number's piece, by a division and a search in the element
@@ -216,18 +216,18 @@ module _ (t : Table) (counted : Counted t) (chained : Chained t) where
 -- the same for a layout, by the number of pieces that an element has
 module _ (layout : Layout) (per : ℕ) (all : per ≡ count_at (slices_in layout.table) layout.table.level_count) where
   pub per_some : 0 < per
-  per_some = let s = count_some layout.table layout.counted layout.chained in omega arith
+  per_some = let s = count_some layout.table layout.sound in omega arith
 
   pub piece_found : (n l s : ℕ) → n / per < layout.table.elements → l < layout.table.level_count → s < slices_in layout.table l
       → n % per ≡ count_at (slices_in layout.table) l + s
       → Some (piece_at (n / per) l s) ≡ piece_numbered layout n
   piece_found n l s few level slice rest =
       ap (λ m. Some (piece_at (n / m) l s)) all
-      ∙ sym (number_pick layout.table layout.counted layout.chained n l s (subst (λ m. n / m < layout.table.elements) all few) level slice
+      ∙ sym (number_pick layout.table layout.sound n l s (subst (λ m. n / m < layout.table.elements) all few) level slice
       (subst (λ m. n % m ≡ count_at (slices_in layout.table) l + s) all rest))
 
   pub piece_none : (n : ℕ) → layout.table.elements ≤ n / per → None ≡ piece_numbered layout n
-  piece_none n h = sym (number_past layout.table layout.counted layout.chained n (subst (λ m. layout.table.elements ≤ n / m) all h))
+  piece_none n h = sym (number_past layout.table layout.sound n (subst (λ m. layout.table.elements ≤ n / m) all h))
 
   -- every number in an element has a piece there
   pub rest_below : (n : ℕ) → count_at (slices_in layout.table) layout.table.level_count ≤ n % per → ⊥

@@ -9,7 +9,7 @@ use Rattle.dds.specs.declared.piece.Piece.{Piece}
 use Rattle.dds.specs.declared.table.Table.{Table}
 use Rattle.dds.specs.LevelEnds.{piece_length}
 use Rattle.dds.specs.Pieces.{Placed, Exists, pieces_of}
-use Rattle.dds.specs.Sound.{plan_in, size_in, Chained, Ended}
+use Rattle.dds.specs.Sound.{plan_in, size_in, Sound}
 use Rattle.dds.specs.Tables.{blank}
 use Rattle.dds.specs.Places.{place_with, exists_in, where_in, Stands, Holds, WhoseIs, Tiled, AreaOf}
 use Rattle.dds.specs.Layouts.{pieces_in}
@@ -23,11 +23,11 @@ place_in t p = place_with t (get_or t.levels p.level blank) p
 abbrev pub entry_in : Table → Piece → Placed
 entry_in t p = record { piece = p; place = place_in t p; length = size_in t p.level }
 
-module _ (t : Table) (chained : Chained t) (ended : Ended t) where
+module _ (t : Table) (sound : Sound t) where
   pub entry_stands : (p : Piece) → Exists (plan_in t) p → Stands (pieces_of (plan_in t)) (entry_in t p)
   entry_stands p h =
-      let a = sym ended.0 in
-      let b = sym (chained p.level h.1).2 in
+      let a = sym sound.stride in
+      let b = sym (sound.begins p.level h.1) in
       subst (λ (x : Placed). Stands (pieces_of (plan_in t)) x)
       (λ i. record { piece = p; place = t.pixel_begin + p.element * a i + b i + p.slice * size_in t p.level; length = size_in t p.level })
       (piece_stands (plan_in t) p h)
@@ -36,9 +36,9 @@ module _ (t : Table) (chained : Chained t) (ended : Ended t) where
   pub entry_fits : (p : Piece) → Exists (plan_in t) p → place_in t p + size_in t p.level ≤ 1073741824
   entry_fits p h =
       let b = (pieces_between (plan_in t) (entry_in t p) (entry_stands p h)).1 in
-      let c = ended.1 in
-      let d = ended.2 in
-      let e = ended.3 in
+      let c = sound.ends in
+      let d = sound.inside in
+      let e = sound.few_bytes in
       omega arith
 
 -- the byte of a piece is answered by that piece
@@ -46,8 +46,8 @@ leads : (layout : Layout) (x : Placed) (place : ℕ) → Stands (pieces_in layou
     → (r : Result (Option (Piece × ℕ)) Refusal) → WhoseIs layout place r → r ≡ Ok (Some (x.piece, place - x.place))
 leads layout x place st h (Err e) w =
     let high = (pieces_between (plan_in layout.table) x st).1 in
-    let c = layout.ended.1 in
-    let d = layout.ended.2 in
+    let c = layout.sound.ends in
+    let d = layout.sound.inside in
     let past = w.1 in
     let below = h.1 in
     absurd (omega arith)
@@ -73,10 +73,10 @@ tiled layout =
       inside = λ x s.
           (let b = pieces_between plan x s in
           let high = b.1 in
-          let c = layout.ended.1 in
-          let d = layout.ended.2 in
+          let c = layout.sound.ends in
+          let d = layout.sound.inside in
           (b.0, omega arith));
-      covered = λ place low high. pieces_cover plan place low (let c = layout.ended.1 in omega arith);
+      covered = λ place low high. pieces_cover plan place low (let c = layout.sound.ends in omega arith);
       leads = leads layout;
     }
 
@@ -99,7 +99,7 @@ module _ {layout : Layout} {l : Level} {p : Piece} (f : Found layout l p) where
 
   pub found_fits : place_with layout.table l p ≤ 1073741824
   found_fits =
-      let a = entry_fits layout.table layout.chained layout.ended p found_exists in
+      let a = entry_fits layout.table layout.sound p found_exists in
       let b = found_place in
       omega arith
 
@@ -109,7 +109,7 @@ module _ {layout : Layout} {l : Level} {p : Piece} (f : Found layout l p) where
     stands =
         subst (λ (x : Placed). Stands (pieces_of (plan_in layout.table)) x)
         (λ i. record { piece = p; place = sym (e ∙ found_place) i; length = sym (m ∙ ap piece_length f.level) i })
-        (entry_stands layout.table layout.chained layout.ended p found_exists);
+        (entry_stands layout.table layout.sound p found_exists);
     row_bytes = ap (λ (x : Level). x.row_bytes) f.level;
     rows = ap (λ (x : Level). x.rows) f.level;
     length = m;

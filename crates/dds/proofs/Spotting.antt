@@ -11,7 +11,7 @@ use Rattle.dds.specs.declared.piece.Piece.{Piece}
 use Rattle.dds.specs.declared.places.Spot.{Spot}
 use Rattle.dds.specs.declared.table.Table.{Table}
 use Rattle.dds.specs.Plans.{begin_at, stride_of}
-use Rattle.dds.specs.Sound.{slices_in, size_in, plan_in, Counted, Chained, Ended}
+use Rattle.dds.specs.Sound.{slices_in, size_in, plan_in, Sound}
 use Rattle.dds.specs.Tables.{blank}
 use Rattle.dds.specs.Pieces.{Placed, pieces_of}
 use Rattle.dds.specs.Places.{Stands, Holds}
@@ -75,24 +75,23 @@ passing_first {X} p (x ∷ xs) parts =
         subst (λ n. IsPartitionPoint (λ y. p y ≡ true) (λ y. p y ≡ false) (x ∷ xs) n) (sym none)
         ((λ k d low high. absurd (omega arith)), fails)
 
-module _ (t : Table) (counted : Counted t) (chained : Chained t) (ended : Ended t) where
+module _ (t : Table) (sound : Sound t) where
   -- the first level begins with the element
   pub first_begin : (get_or t.levels 0 blank).begin ≡ 0
-  first_begin = (chained 0 counted.0).2
+  first_begin = sound.begins 0 sound.some_levels
 
   -- an element has some bytes
   pub stride_some : 1 ≤ t.stride
   stride_some =
-      let some = chained 0 counted.0 in
-      let m = mul-le 1 1 (slices_in t 0) (size_in t 0) some.0 some.1 in
-      let w = begin_within (slices_in t) (size_in t) 0 t.level_count counted.0 in
-      let e = ended.0 in
+      let m = mul-le 1 1 (slices_in t 0) (size_in t 0) (sound.slices 0 sound.some_levels) (sound.sizes 0 sound.some_levels) in
+      let w = begin_within (slices_in t) (size_in t) 0 t.level_count sound.some_levels in
+      let e = sound.stride in
       omega arith
 
   -- a level begins where the rules say, also in the front of the table
   begin_in : (k : ℕ) (d : Level) → t.level_count ≤ length t.levels → k < t.level_count → (get_or (take t.level_count t.levels) k d).begin ≡ begin_at (slices_in t) (size_in t) k
   begin_in k d room h =
-      ap (λ (l : Level). l.begin) (get_or-take t.level_count t.levels k d h ∙ get_or_default t.levels k d blank (omega arith)) ∙ (chained k h).2
+      ap (λ (l : Level). l.begin) (get_or-take t.level_count t.levels k d h ∙ get_or_default t.levels k d blank (omega arith)) ∙ sound.begins k h
 
   as_long : (xs : List Level) → xs ≡ take t.level_count t.levels → length xs ≡ t.level_count → t.level_count ≤ length t.levels
   as_long xs is long = let m = ap length is ∙ length-take t.level_count t.levels in omega arith
@@ -120,7 +119,7 @@ module _ (t : Table) (counted : Counted t) (chained : Chained t) (ended : Ended 
       let some : 1 ≤ i
       = ⊎_elim
       (λ (none : i < 1).
-      let first = begin_in 0 blank room counted.0 in
+      let first = begin_in 0 blank room sound.some_levels in
       let same = ap (λ (ys : List Level). (get_or ys 0 blank).begin) is in
       let past = point.1 0 blank (omega arith) (omega arith) in
       absurd (grind (arith, nat_tests)))
@@ -129,12 +128,12 @@ module _ (t : Table) (counted : Counted t) (chained : Chained t) (ended : Ended 
         some,
         (let a = point.0 (i - 1) blank (omega arith) (omega arith) in
             let b = ap (λ (ys : List Level). (get_or ys (i - 1) blank).begin) is ∙ begin_in (i - 1) blank room (omega arith) in
-            let c = (chained (i - 1) (omega arith)).2 in
+            let c = sound.begins (i - 1) (omega arith) in
             grind (arith, nat_tests)),
         (λ more.
             let a = point.1 (i - 1 + 1) blank (omega arith) (omega arith) in
             let b = ap (λ (ys : List Level). (get_or ys (i - 1 + 1) blank).begin) is ∙ begin_in (i - 1 + 1) blank room more in
-            let c = (chained (i - 1 + 1) more).2 in
+            let c = sound.begins (i - 1 + 1) more in
             grind (arith, nat_tests)),
       )
 
@@ -143,17 +142,17 @@ module _ (t : Table) (counted : Counted t) (chained : Chained t) (ended : Ended 
       → (k + 1 < t.level_count → offset < (get_or t.levels (k + 1) blank).begin)
       → offset < (get_or t.levels k blank).begin + slices_in t k * size_in t k
   before_end k offset h o last =
-      let b = (chained k h).2 in
+      let b = sound.begins k h in
       ⊎_elim
       (λ (end : k + 1 ≡ t.level_count).
-      let e = ended.0 in
+      let e = sound.stride in
       let f : begin_at (slices_in t) (size_in t) t.level_count ≡ begin_at (slices_in t) (size_in t) k + slices_in t k * size_in t k
       = ap (λ n. begin_at (slices_in t) (size_in t) n) (sym end ∙ add-one k) in
       omega arith)
       (⊎_elim
       (λ (more : k + 1 < t.level_count).
       let l = last more in
-      let c = (chained (k + 1) more).2 in
+      let c = sound.begins (k + 1) more in
       let f : begin_at (slices_in t) (size_in t) (k + 1) ≡ begin_at (slices_in t) (size_in t) k + slices_in t k * size_in t k
       = ap (λ n. begin_at (slices_in t) (size_in t) n) (add-one k) in
       omega arith)
@@ -163,13 +162,13 @@ module _ (t : Table) (counted : Counted t) (chained : Chained t) (ended : Ended 
   -- the level's bytes are few enough for 32 bits
   pub level_few : 1 ≤ t.elements → (k : ℕ) → k < t.level_count → (get_or t.levels k blank).begin + slices_in t k * size_in t k ≤ 1073741824
   level_few c k h =
-      let b = (chained k h).2 in
+      let b = sound.begins k h in
       let w = begin_within (slices_in t) (size_in t) k t.level_count h in
-      let e = ended.0 in
+      let e = sound.stride in
       let m = mul-le 1 (stride_of (plan_in t)) t.elements (stride_of (plan_in t)) c (le_refl (stride_of (plan_in t))) in
-      let x = ended.1 in
-      let y = ended.2 in
-      let z = ended.3 in
+      let x = sound.ends in
+      let y = sound.inside in
+      let z = sound.few_bytes in
       omega arith
 
   -- the spot that the level, a quotient and a remainder make
@@ -179,7 +178,7 @@ module _ (t : Table) (counted : Counted t) (chained : Chained t) (ended : Ended 
   spotted k offset len h o b last e =
       let rest = offset - (get_or t.levels k blank).begin in
       let end = before_end k offset h o last in
-      let some : 0 < size_in t k = (chained k h).1 in
+      let some : 0 < size_in t k = sound.sizes k h in
       let few : rest < slices_in t k * size_in t k = omega arith in
       subst (λ n. SpotOf t offset (record { level = k; slice = rest / n; offset = rest % n })) (sym e)
       (record {
@@ -193,10 +192,9 @@ module _ (t : Table) (counted : Counted t) (chained : Chained t) (ended : Ended 
   pub spot_few : 1 ≤ t.elements → (offset : ℕ) (s : Spot) → SpotOf t offset s → (s.slice < 4294967296) × (s.offset < 4294967296)
   spot_few e offset s p =
       let k = s.level in
-      let some = chained k p.level in
       let few = level_few e k p.level in
-      let a = mul-le (slices_in t k) 1 (slices_in t k) (size_in t k) (le_refl (slices_in t k)) some.1 in
-      let b = mul-le 1 (size_in t k) (slices_in t k) (size_in t k) some.0 (le_refl (size_in t k)) in
+      let a = mul-le (slices_in t k) 1 (slices_in t k) (size_in t k) (le_refl (slices_in t k)) (sound.sizes k p.level) in
+      let b = mul-le 1 (size_in t k) (slices_in t k) (size_in t k) (sound.slices k p.level) (le_refl (size_in t k)) in
       let c = p.slice in
       let d = p.inside in
       (omega arith, omega arith)
@@ -208,12 +206,12 @@ module _ (t : Table) (counted : Counted t) (chained : Chained t) (ended : Ended 
   owner_at place s low high p =
       let inner = place - t.pixel_begin in
       let d = div-add-mod' inner t.stride in
-      let stride = ended.0 in
-      let end : t.pixel_end ≡ t.pixel_begin + t.elements * t.stride = ended.1 ∙ ap (λ n. t.pixel_begin + t.elements * n) (sym stride) in
+      let stride = sound.stride in
+      let end : t.pixel_end ≡ t.pixel_begin + t.elements * t.stride = sound.ends ∙ ap (λ n. t.pixel_begin + t.elements * n) (sym stride) in
       let few : inner / t.stride < t.elements = div_below inner t.stride t.elements stride_some (omega arith) in
       let back = p.back in
       let piece : Piece = record { element = inner / t.stride; level = s.level; slice = s.slice } in
-      (entry_in t piece, (entry_stands t chained ended piece (few, p.level, p.slice), refl, omega arith, p.inside))
+      (entry_in t piece, (entry_stands t sound piece (few, p.level, p.slice), refl, omega arith, p.inside))
 
   -- a byte outside the pixel data is of no piece
   pub nobody_at : (place : ℕ) → (place < t.pixel_begin) ⊎ (t.pixel_end ≤ place) → (x : Placed) → Stands (pieces_of (plan_in t)) x → Holds x place → ⊥
@@ -221,7 +219,7 @@ module _ (t : Table) (counted : Counted t) (chained : Chained t) (ended : Ended 
       let b = pieces_between (plan_in t) x st in
       let low = b.0 in
       let high = b.1 in
-      let e = ended.1 in
+      let e = sound.ends in
       let f = h.0 in
       let g = h.1 in
       ⊎_elim (λ (o : place < t.pixel_begin). omega arith) (λ (o : t.pixel_end ≤ place). omega arith) out

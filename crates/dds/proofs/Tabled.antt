@@ -13,7 +13,7 @@ use Rattle.dds.specs.Levels.{levels_of, side_at}
 use Rattle.dds.specs.Plans.{Plan, plan_of, size_at, begin_at, stride_of, end_of}
 use Rattle.dds.specs.Tables.{level_at, blank, IsChain}
 use Rattle.dds.specs.Pieces.{Placed, Lists, Sized, Touching, FitsPlan, pieces_of}
-use Rattle.dds.specs.Sound.{slices_in, size_in, plan_in, Counted, Chained, Ended}
+use Rattle.dds.specs.Sound.{slices_in, size_in, plan_in, Sound}
 use Rattle.dds.specs.Layouts.{sides_of, TableOf}
 use Rattle.dds.proofs.Begins.{Lawful, size_some}
 use Rattle.dds.proofs.Halving.{side_some}
@@ -114,28 +114,6 @@ module _ (h : Header) (shape : Shape) (row_bytes rows : ℕ → ℕ → ℕ) (n 
   pub table_end : end_of (plan_in t) ≡ end_of (plan_of h shape row_bytes rows)
   table_end = (fits_only (plan_of h shape row_bytes rows) (end_of (plan_in t)) (pieces_of (plan_in t)) table_fits).1
 
-  pub table_counted : Counted t
-  table_counted =
-      let count = is.count in
-      let elements = is.elements in
-      let a = ok.some_levels in
-      let b = ok.few_levels in
-      let d = ok.few_elements in
-      (omega arith, omega arith, omega arith)
-
-  pub table_chained : Lawful row_bytes rows → Chained t
-  table_chained law k l =
-      let count = is.count in
-      let e = level_at_lem k (omega arith) in
-      let some : 1 ≤ slices_in t k = subst (λ m. 1 ≤ m) (sym (ap (λ (x : Level). x.slices) e)) (side_some (sides_of h shape).depth k) in
-      let bytes : 1 ≤ size_in t k = subst (λ m. 1 ≤ m) (sym (ap piece_length e)) (size_some row_bytes rows law (sides_of h shape) ok.sides k) in (
-        some,
-        bytes,
-        ap (λ (x : Level). x.begin) e
-            ∙ sym (begin_agree (slices_in t) (plan_of h shape row_bytes rows).slices (size_in t) (plan_of h shape row_bytes rows).size k
-            (λ j m. agree.slices j (omega arith)) (λ j m. agree.size j (omega arith))),
-      )
-
   pub table_stride : t.stride ≡ stride_of (plan_in t)
   table_stride =
       is.stride
@@ -143,10 +121,30 @@ module _ (h : Header) (shape : Shape) (row_bytes rows : ℕ → ℕ → ℕ) (n 
       ∙ begin_agree (slices_in t) (plan_of h shape row_bytes rows).slices (size_in t) (plan_of h shape row_bytes rows).size (levels_of h)
       (λ j m. ap (λ (x : Level). x.slices) (level_at_lem j m)) (λ j m. ap piece_length (level_at_lem j m)))
 
-  pub table_ended : n ≤ 1073741824 → t.pixel_end ≡ n → Ended t
-  table_ended few e =
+  -- where the table ends at the file's end, it is sound
+  pub table_sound : Lawful row_bytes rows → n ≤ 1073741824 → t.pixel_end ≡ n → Sound t
+  table_sound law few e =
+      let count = is.count in
+      let elements = is.elements in
+      let some_levels = ok.some_levels in
+      let few_levels = ok.few_levels in
+      let few_elements = ok.few_elements in
       let length = is.length in
-      (table_stride, is.end ∙ sym table_end, omega arith, omega arith)
+      record {
+        some_levels = omega arith;
+        few_levels = omega arith;
+        few_elements = omega arith;
+        slices = λ k l. subst (λ m. 1 ≤ m) (sym (ap (λ (x : Level). x.slices) (level_at_lem k (omega arith)))) (side_some (sides_of h shape).depth k);
+        sizes = λ k l. subst (λ m. 1 ≤ m) (sym (ap piece_length (level_at_lem k (omega arith)))) (size_some row_bytes rows law (sides_of h shape) ok.sides k);
+        begins = λ k l.
+            ap (λ (x : Level). x.begin) (level_at_lem k (omega arith))
+            ∙ sym (begin_agree (slices_in t) (plan_of h shape row_bytes rows).slices (size_in t) (plan_of h shape row_bytes rows).size k
+            (λ j m. agree.slices j (omega arith)) (λ j m. agree.size j (omega arith)));
+        stride = table_stride;
+        ends = is.end ∙ sym table_end;
+        inside = omega arith;
+        few_bytes = omega arith;
+      }
 
   -- where the table ends at the file's end, its pieces fit the file
   pub table_fits_file : t.pixel_end ≡ n → FitsPlan (plan_of h shape row_bytes rows) n (pieces_of (plan_in t))

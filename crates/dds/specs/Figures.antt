@@ -7,6 +7,7 @@ use Rattle.formats.specs.BitCounts.{is_set}
 use Rattle.formats.specs.Codes.{name_for, plain_rows}
 use Rattle.dds.specs.declared.layout.Layout.{Layout}
 use Rattle.dds.specs.declared.piece.Piece.{Piece}
+use Rattle.dds.specs.Readings.{reading}
 use Rattle.dds.specs.Headers.{number_at}
 use Rattle.dds.specs.Layouts.{OpenedBy, refusal_of, pieces_in}
 use Rattle.dds.specs.Places.{WhoseIs}
@@ -123,7 +124,7 @@ CubesBc6h array_size head = Begins 256 256 9 head × (HasDxgi 94 96 head × HasA
 -- every file of that length with such a head is answered so by opening with the built-in table
 abbrev pub Answers : (List ℕ → Type 0) → ℕ → (Result Layout Refusal → Type 0) → Type 0
 Answers Such n P =
-    (head : List ℕ) → Such head → (r : Result Layout Refusal) → OpenedBy head n (name_for plain_rows) r → P r
+    (head : List ℕ) → Such head → (r : Result Layout Refusal) → OpenedBy (reading head n) (name_for plain_rows) r → P r
 
 -- it is accepted, and the layout has the property
 abbrev pub AcceptedWith : (Layout → Type 0) → Result Layout Refusal → Type 0
@@ -151,7 +152,7 @@ image_of n = record { element = 0; level = n; slice = 0 }
 abbrev pub TurnedAway : ℕ → ℕ → ℕ → (List ℕ → Type 0) → ℕ → Refusal → Type 0
 TurnedAway width height levels Kind shortest e =
     (head : List ℕ) (n : ℕ) → Begins width height levels head → Kind head → shortest ≤ n → n ≤ 1073741824
-    → refusal_of head n ≡ Some e
+    → refusal_of (reading head n) ≡ Some e
 
 -- 4 by 4 with four levels: every header whose shape is in range, and as a volume at most 7 deep
 pub record FourLevels : Type 0 where

@@ -6,6 +6,7 @@ use Rattle.formats.specs.declared.kinds.FormatName.{FormatName}
 use Rattle.formats.specs.Codes.{name_for, dxgi_rows}
 use Rattle.formats.specs.BitCounts.{is_set, name_by_bit_count}
 use Rattle.dds.specs.declared.header.Header.{Header}
+use Rattle.dds.specs.Readings.{Reading}
 
 -- the number whose lowest byte stands at a place; a byte that is not there counts as 0
 abbrev pub number_at : List ℕ → ℕ → ℕ
@@ -45,14 +46,14 @@ code_decides h = is_set h.pixel_flags 0x4
 abbrev pub is_extended : Header → Bool
 is_extended h = code_decides h && h.code == 0x30315844
 
--- what a file's head and length say, up to the first refusal that applies
-abbrev pub header_read : List ℕ → ℕ → Result Header Refusal
-header_read head n =
-    cond (nat_lt n 128 || nat_lt 1073741824 n) (Err WrongLength)
-    (cond (not (has_magic head)) (Err WrongMagic)
-    (cond (not ((header_of head).header_size == 124 && (header_of head).pixel_format_size == 32)) (Err WrongHeaderSize)
-    (cond (is_extended (header_of head) && nat_lt n 148) (Err ShortExtendedHeader)
-    (Ok (header_of head)))))
+-- what is read of a file says this, up to the first refusal that applies
+abbrev pub header_read : Reading → Result Header Refusal
+header_read x =
+    cond (nat_lt x.length 128 || nat_lt 1073741824 x.length) (Err WrongLength)
+    (cond (not (has_magic x.head)) (Err WrongMagic)
+    (cond (not ((header_of x.head).header_size == 124 && (header_of x.head).pixel_format_size == 32)) (Err WrongHeaderSize)
+    (cond (is_extended (header_of x.head) && nat_lt x.length 148) (Err ShortExtendedHeader)
+    (Ok (header_of x.head)))))
 
 -- the name of a header's format, with a table for the codes other than DX10
 abbrev pub header_name : (ℕ → Option FormatName) → Header → Option FormatName

@@ -9,6 +9,10 @@ use Rattle.dds.specs.declared.shape.Shape.{Shape}
 use Rattle.dds.specs.declared.table.Table.{Table}
 use Rattle.dds.specs.declared.table.Sides.{Sides}
 use Rattle.dds.specs.declared.layout.Layout.{Layout}
+use Rattle.dds.specs.declared.origin.Origin.{Origin}
+use Rattle.dds.specs.declared.source.FormatSource.{FormatSource}
+use Rattle.dds.specs.Readings.{Reading, MayEnd}
+use Rattle.dds.specs.Sources.{source_of}
 use Rattle.dds.specs.Headers.{header_of, header_read, header_name}
 use Rattle.dds.specs.Levels.{levels_of}
 use Rattle.dds.specs.Shapes.{shape_of, elements_of, depth_of, shape_read}
@@ -31,16 +35,22 @@ pub record TableOf (h : Header) (shape : Shape) (row_bytes rows : ℕ → ℕ �
   pub end : t.pixel_end ≡ end_of (plan_of h shape row_bytes rows)
   pub length : t.length ≡ n
 
+-- what a layout was made from
+abbrev pub origin_of : Header → Shape → FormatSource → Origin
+origin_of h shape' source' = record { header = h; shape = shape'; source = source' }
+
 -- the pieces of a layout, in the order of the file
 abbrev pub pieces_in : Layout → List Placed
 pieces_in layout = pieces_of (plan_in layout.table)
 
--- a list of pieces fits a header, a family's two functions and a file's length: the header has a shape, and the list has
--- exactly the pieces of that shape and its levels, in order, each of its length, from where pixel data begin to the file's end
-pub record Fits (h : Header) (row_bytes rows : ℕ → ℕ → ℕ) (n : ℕ) (ps : List Placed) : Type 0 where
+-- a list of pieces fits what is read of a file and a family's two functions: the header has a shape, and the list has exactly the
+-- pieces of that shape and its levels, in order, each of its length, from where pixel data begin to where the last may end
+pub record Fits (x : Reading) (row_bytes rows : ℕ → ℕ → ℕ) (ps : List Placed) : Type 0 where
   pub shape : Shape
-  pub has : shape_of h ≡ Some shape
-  pub fits : FitsPlan (plan_of h shape row_bytes rows) n ps
+  pub has : shape_of (header_of x.head) ≡ Some shape
+  pub end : ℕ
+  pub ends : MayEnd x end
+  pub fits : FitsPlan (plan_of (header_of x.head) shape row_bytes rows) end ps
 
 -- the refusal that a result carries, if any
 abbrev pub err_of : Result Shape Refusal → Option Refusal
@@ -52,42 +62,42 @@ abbrev pub first_refusal : Result Header Refusal → Option Refusal
 first_refusal (Err e) = Some e
 first_refusal (Ok h) = err_of (shape_read h)
 
--- the first refusal that applies to a file's head and length before its pieces are looked at: length, first bytes, sizes of
--- the header, extended header, shape, range, levels
-abbrev pub refusal_of : List ℕ → ℕ → Option Refusal
-refusal_of head n = first_refusal (header_read head n)
+-- the first refusal that applies to what is read of a file before its pieces are looked at: length, first bytes, sizes of the
+-- header, extended header, shape, range, levels
+abbrev pub refusal_of : Reading → Option Refusal
+refusal_of x = first_refusal (header_read x)
 
--- an accepted file: nothing refuses it, the layout's pieces fit, and no other list does
-pub record Accepted (head : List ℕ) (n : ℕ) (row_bytes rows : ℕ → ℕ → ℕ) (layout : Layout) : Type 0 where
-  pub free : refusal_of head n ≡ None
-  pub fits : Fits (header_of head) row_bytes rows n (pieces_in layout)
-  pub alone : (ps : List Placed) → Fits (header_of head) row_bytes rows n ps → ps ≡ pieces_in layout
+-- an accepted file: nothing refuses it, the layout's pieces fit, and no other list does; the layout has the table and the origin
+pub record Accepted (x : Reading) (source : FormatSource) (row_bytes rows : ℕ → ℕ → ℕ) (layout : Layout) : Type 0 where
+  pub free : refusal_of x ≡ None
+  pub fits : Fits x row_bytes rows (pieces_in layout)
+  pub alone : (ps : List Placed) → Fits x row_bytes rows ps → ps ≡ pieces_in layout
   pub shape : Shape
-  pub has : shape_of (header_of head) ≡ Some shape
-  pub table : TableOf (header_of head) shape row_bytes rows n layout.table
+  pub has : shape_of (header_of x.head) ≡ Some shape
+  pub table : TableOf (header_of x.head) shape row_bytes rows x.length layout.table
+  pub origin : layout.origin ≡ Some (origin_of (header_of x.head) shape source)
 
 -- a refusal before the pieces are looked at; else no list of pieces fits
 abbrev pub Turned : Option Refusal → Refusal → Type 0 → Type 0
 Turned (Some d) e P = e ≡ d
 Turned None e P = (e ≡ WrongEnd) × P
 
--- what opening answers for a file's head and length and a family's two functions
-abbrev pub Opened : List ℕ → ℕ → (ℕ → ℕ → ℕ) → (ℕ → ℕ → ℕ) → Result Layout Refusal → Type 0
-Opened head n row_bytes rows (Ok layout) = Accepted head n row_bytes rows layout
-Opened head n row_bytes rows (Err e) =
-    Turned (refusal_of head n) e ((ps : List Placed) → Fits (header_of head) row_bytes rows n ps → ⊥)
+-- what opening answers for what is read of a file, a format from there and its family's two functions
+abbrev pub Opened : Reading → FormatSource → (ℕ → ℕ → ℕ) → (ℕ → ℕ → ℕ) → Result Layout Refusal → Type 0
+Opened x source row_bytes rows (Ok layout) = Accepted x source row_bytes rows layout
+Opened x source row_bytes rows (Err e) = Turned (refusal_of x) e ((ps : List Placed) → Fits x row_bytes rows ps → ⊥)
 
 -- what opening answers where the header names that format, or none that is known
-abbrev pub OpenedAs : List ℕ → ℕ → Option FormatName → Result Layout Refusal → Type 0
-OpenedAs head n None r = r ≡ Err UnknownFormat
-OpenedAs head n (Some name) r = Opened head n (row_bytes_of name) (rows_of name) r
+abbrev pub OpenedAs : Reading → FormatSource → Option FormatName → Result Layout Refusal → Type 0
+OpenedAs x source None r = r ≡ Err UnknownFormat
+OpenedAs x source (Some name) r = Opened x source (row_bytes_of name) (rows_of name) r
 
 -- what opening answers where the header was read so
-abbrev pub OpenedIn : List ℕ → ℕ → (ℕ → Option FormatName) → Result Header Refusal → Result Layout Refusal → Type 0
-OpenedIn head n names (Err e) r = r ≡ Err e
-OpenedIn head n names (Ok h) r = OpenedAs head n (header_name names h) r
+abbrev pub OpenedIn : Reading → (ℕ → Option FormatName) → Result Header Refusal → Result Layout Refusal → Type 0
+OpenedIn x names (Err e) r = r ≡ Err e
+OpenedIn x names (Ok h) r = OpenedAs x (source_of h) (header_name names h) r
 
 -- what opening answers with a table of the codes other than DX10: an unknown format is refused right after the header, and
 -- every other file is opened with the format that the header names
-abbrev pub OpenedBy : List ℕ → ℕ → (ℕ → Option FormatName) → Result Layout Refusal → Type 0
-OpenedBy head n names r = OpenedIn head n names (header_read head n) r
+abbrev pub OpenedBy : Reading → (ℕ → Option FormatName) → Result Layout Refusal → Type 0
+OpenedBy x names r = OpenedIn x names (header_read x) r

@@ -1,5 +1,8 @@
+pub use Rattle.formats.specs.Names
+pub mod Readings
 pub mod Headers
 pub mod Levels
+pub mod Sources
 pub mod Shapes
 pub mod LevelEnds
 pub mod Plans

@@ -18,21 +18,19 @@ abbrev pub plan_in : Table → Plan
 plan_in t =
     record { elements = t.elements; levels = t.level_count; slices = slices_in t; size = size_in t; begin = t.pixel_begin }
 
--- 1 to 15 levels, and at most 2,048 elements; the empty layout has none
-abbrev pub Counted : Table → Type 0
-Counted t = (1 ≤ t.level_count) × (t.level_count ≤ 15) × (t.elements ≤ 2048)
-
--- levels follow one another from the element's first byte on, and none is empty
-abbrev pub Chained : Table → Type 0
-Chained t =
-    (k : ℕ) → k < t.level_count
-    → (1 ≤ slices_in t k) × (1 ≤ size_in t k) × ((get_or t.levels k blank).begin ≡ begin_at (slices_in t) (size_in t) k)
-
--- elements follow one another from where pixel data begin to where they end, in the file
-abbrev pub Ended : Table → Type 0
-Ended t =
-    (t.stride ≡ stride_of (plan_in t)) × (t.pixel_end ≡ end_of (plan_in t)) × (t.pixel_end ≤ t.length)
-    × (t.length ≤ 1073741824)
+-- levels follow one another from the element's first byte on, and none is empty; elements follow one another from where pixel data
+-- begin to where they end, in the file. The empty layout has no elements
+pub record Sound (t : Table) : Type 0 where
+  pub some_levels : 1 ≤ t.level_count
+  pub few_levels : t.level_count ≤ 15
+  pub few_elements : t.elements ≤ 2048
+  pub slices : (k : ℕ) → k < t.level_count → 1 ≤ slices_in t k
+  pub sizes : (k : ℕ) → k < t.level_count → 1 ≤ size_in t k
+  pub begins : (k : ℕ) → k < t.level_count → (get_or t.levels k blank).begin ≡ begin_at (slices_in t) (size_in t) k
+  pub stride : t.stride ≡ stride_of (plan_in t)
+  pub ends : t.pixel_end ≡ end_of (plan_in t)
+  pub inside : t.pixel_end ≤ t.length
+  pub few_bytes : t.length ≤ 1073741824
 
 -- the table of no file: no elements and no bytes. Its one level, of one pixel of one byte, is nobody's
 abbrev pub empty_table : Table

@@ -43,7 +43,7 @@ impl Layout {
     pub fn piece_count(&self) -> u64
         ensures { result ≡ length (pieces_in self.now) }
     {
-        self.table.elements as u64 * self.pieces_per_element()
+        self.laid.table.elements as u64 * self.pieces_per_element()
     }
 
     /// The piece with that number, counted from 0 in the order of the file; none past the last.
@@ -52,7 +52,7 @@ impl Layout {
     {
         let pieces = self.pieces_per_element();
         let element = number / pieces;
-        if element >= self.table.elements as u64 {
+        if element >= self.laid.table.elements as u64 {
             return None;
         }
         let (level, slice) = self.slice_numbered(number % pieces)?;

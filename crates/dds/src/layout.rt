@@ -1,23 +1,35 @@
 // The layout of an accepted file.
-ghost use Rattle.std.specs.Prelude.{◌≡◌, length, take};
-ghost use Rattle.dds.specs.Sound.{Counted, Chained, Ended, empty_table};
+ghost use Rattle.std.specs.Prelude.{◌≡◌, length, take, None};
+ghost use Rattle.dds.specs.Sound.{empty_table};
 
+use crate::laid_out::LaidOut;
 use crate::level::Level;
+use crate::origin::Origin;
 use crate::table::Table;
+use std::marker::Model;
 
-/// Where all pieces of an accepted file stand: a table in which they follow one another without a gap.
+/// Where all pieces of an accepted file stand: a table in which they follow one another without a gap. Beside it stands what it was made
+/// from. Clauses see a layout as what it holds.
 #[derive(Clone, Copy)]
 pub struct Layout {
-    pub(crate) table: Table,
-    ghost counted: { Counted table },
-    ghost chained: { Chained table },
-    ghost ended: { Ended table },
+    pub(crate) laid: LaidOut,
+}
+
+impl Model for Layout {
+    ghost use Rattle.dds.specs.declared.laid_out.LaidOut.{LaidOut};
+
+    ghost Value = { LaidOut };
+
+    ghost view = { λ layout. layout.laid };
+
+    ghost inverse = { λ value. record { laid = value } };
 }
 
 impl Layout {
     /// The layout of no file: no elements, so no pieces, and no bytes. Its one level, of one pixel of one byte, is nobody's.
     pub fn empty() -> Layout
-        ensures { result.table ≡ empty_table }
+        ensures table { result.table ≡ empty_table }
+        ensures origin { result.origin ≡ None }
     {
         let mut levels = [Level::default(); 15];
         levels[0] = Level {
@@ -28,15 +40,19 @@ impl Layout {
             rows: 1,
             begin: 0,
         };
+        let table = Table {
+            levels,
+            level_count: 1,
+            elements: 0,
+            stride: 1,
+            pixel_begin: 0,
+            pixel_end: 0,
+            length: 0,
+        };
         Layout {
-            table: Table {
-                levels,
-                level_count: 1,
-                elements: 0,
-                stride: 1,
-                pixel_begin: 0,
-                pixel_end: 0,
-                length: 0,
+            laid: LaidOut {
+                table,
+                origin: None,
             },
         }
     }
@@ -45,7 +61,14 @@ impl Layout {
     pub fn length(&self) -> u64
         ensures { result ≡ self.now.table.length }
     {
-        self.table.length
+        self.laid.table.length
+    }
+
+    /// What it was made from: the header as it was read, the shape, and where the format comes from; none for the layout of no file.
+    pub fn origin(&self) -> Option<Origin>
+        ensures { result ≡ self.now.origin }
+    {
+        self.laid.origin
     }
 
     // The levels of every element.
@@ -53,6 +76,6 @@ impl Layout {
         ensures levels { result.now ≡ take self.now.table.level_count self.now.table.levels }
         ensures count { length result.now ≡ self.now.table.level_count }
     {
-        &self.table.levels[..self.table.level_count as usize]
+        &self.laid.table.levels[..self.laid.table.level_count as usize]
     }
 }

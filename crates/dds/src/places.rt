@@ -41,7 +41,7 @@ impl Layout {
         ensures { SpotOf self.now.table offset result }
     {
         let number = self.level_holding(offset);
-        let level = self.table.levels[number];
+        let level = self.laid.table.levels[number];
         let length = level.piece_length();
         let rest = offset - level.begin;
         Spot {
@@ -56,7 +56,7 @@ impl Layout {
         requires { place_with self.now.table level.now piece ≤ 1073741824 }
         ensures { result ≡ place_with self.now.table level.now piece }
     {
-        let element = self.table.pixel_begin + piece.element as u64 * self.table.stride;
+        let element = self.laid.table.pixel_begin + piece.element as u64 * self.laid.table.stride;
         element + level.begin + piece.slice as u64 * level.piece_length()
     }
 
@@ -77,7 +77,7 @@ impl Layout {
         ensures tiled { Tiled self.now }
     {
         let level = self.level(piece.level).ok_or(Refusal::NoSuchPiece)?;
-        if piece.element >= self.table.elements || piece.slice >= level.slices {
+        if piece.element >= self.laid.table.elements || piece.slice >= level.slices {
             return Err(Refusal::NoSuchPiece);
         }
         Ok(Area {
@@ -94,16 +94,16 @@ impl Layout {
         ensures value { WhoseIs self.now place result }
         ensures tiled { Tiled self.now }
     {
-        if place >= self.table.length {
+        if place >= self.laid.table.length {
             return Err(Refusal::PastFileEnd);
         }
-        if place < self.table.pixel_begin || place >= self.table.pixel_end {
+        if place < self.laid.table.pixel_begin || place >= self.laid.table.pixel_end {
             return Ok(None);
         }
-        let inner = place - self.table.pixel_begin;
-        let spot = self.spot_at(inner % self.table.stride);
+        let inner = place - self.laid.table.pixel_begin;
+        let spot = self.spot_at(inner % self.laid.table.stride);
         let piece = Piece {
-            element: (inner / self.table.stride) as u32,
+            element: (inner / self.laid.table.stride) as u32,
             level: spot.level,
             slice: spot.slice,
         };
@@ -114,7 +114,7 @@ impl Layout {
     pub fn bytes_of<'a>(&self, file: &'a [u8], piece: Piece) -> Result<&'a [u8], Refusal>
         ensures { Shown self.now file.now piece result }
     {
-        if file.len() as u64 != self.table.length {
+        if file.len() as u64 != self.laid.table.length {
             return Err(Refusal::OtherLength);
         }
         let area = self.place_of(piece)?;

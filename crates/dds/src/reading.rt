@@ -2,6 +2,7 @@
 ghost use Rattle.std.specs.Prelude.{◌≡◌, ℕ, ◌≤◌, true, false, List, drop, MatchOption, slice_index};
 ghost use Rattle.std.specs.Option.{option_map};
 ghost use Rattle.formats.specs.Names.{name_of};
+ghost use Rattle.dds.specs.Readings.{reading_in};
 ghost use Rattle.dds.specs.Headers.{number_at, has_magic, header_of, header_read, is_extended, code_decides, header_name};
 
 use crate::head::FileHead;
@@ -83,7 +84,7 @@ impl Header {
     }
 
     // The code decides the format, whatever other pixel flags are set.
-    fn code_decides(&self) -> bool
+    pub(crate) fn code_decides(&self) -> bool
         ensures { result ≡ code_decides self.now }
     {
         self.pixel_flags & FOURCC != 0
@@ -99,7 +100,7 @@ impl Header {
     /// The header of a file, from its head and its length. Refuses with WrongLength, WrongMagic, WrongHeaderSize or
     /// ShortExtendedHeader, in this order.
     pub fn read(head: FileHead<'_>) -> Result<Header, Refusal>
-        ensures { result ≡ header_read head.entry.bytes.now head.entry.length }
+        ensures { result ≡ header_read (reading_in head.entry) }
     {
         let FileHead { bytes, length } = head;
         if !(SHORTEST..=LONGEST).contains(&length) {

@@ -4,7 +4,7 @@ use crate::expected::{
     VOLUME, XFLAT,
 };
 use crate::heads::{file_with, head_with};
-use dds::{Area, FileHead, Layout, Piece, longest_chain};
+use dds::{Area, FileHead, FormatSource, Layout, Piece, Shape, longest_chain};
 use formats::{BuiltInCodes, Format, FormatName};
 use listing::{Facts, Owner, Row};
 use refusal::Refusal;
@@ -238,6 +238,21 @@ fn bytes_of_an_array_with_a_format_handed_in(rt: HostRuntime) -> Result<(), Fail
     ] {
         check_part(&rt, &layout, &file, part)?;
     }
+    Ok(())
+}
+
+// The same array in the format that its header names, DXGI code 28 of 32 bits, or in that format handed in: the same header and shape.
+#[test]
+fn origins(rt: HostRuntime) -> Result<(), Fail> {
+    let file = file_with(&rt, rt.alloc(), &XFLAT, 148, 352)?;
+    let named = Layout::read(FileHead::of(&file), &BuiltInCodes)?.origin();
+    assert_eq!(rt; named.map(|origin| origin.source), Some(FormatSource::Dxgi(28)));
+    assert_eq!(rt; named.map(|origin| origin.shape), Some(Shape::Flat(3)));
+    let format = Format::try_from(FormatName::Linear(32))?;
+    let handed = Layout::read_with(FileHead::of(&file), &format)?.origin();
+    assert_eq!(rt; handed.map(|origin| origin.source), Some(FormatSource::HandedIn));
+    assert_eq!(rt; handed.map(|origin| origin.header), named.map(|origin| origin.header));
+    assert!(rt; Layout::empty().origin().is_none());
     Ok(())
 }
 

@@ -1,4 +1,5 @@
 pub mod Sizes
+pub mod Kinds
 pub mod Names
 pub mod Extents
 pub mod Codes

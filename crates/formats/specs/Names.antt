@@ -5,13 +5,14 @@ use Rattle.formats.specs.declared.kinds.Format.TheVariants as format
 use Rattle.formats.specs.declared.kinds.FormatName.{FormatName}
 use Rattle.formats.specs.declared.kinds.FormatName.TheVariants.{Linear, Paired, Block}
 use Rattle.formats.specs.declared.names.NoSuchSize.{NoSuchSize}
+use Rattle.formats.specs.Kinds.{bits_of, bytes_of}
 use Rattle.formats.specs.Sizes.{is_pixel_size, is_block_size}
 
 -- a format is wholly known by its name
 abbrev pub name_of : Format → FormatName
-name_of (format.Linear f) = Linear f.bits
+name_of (format.Linear f) = Linear (bits_of f)
 name_of format.Paired = Paired
-name_of (format.Block f) = Block f.bytes
+name_of (format.Block f) = Block (bytes_of f)
 
 -- the name itself, or none where it says a size that no format has
 abbrev pub admitted : FormatName → Option FormatName

@@ -1,6 +1,7 @@
 // How many bytes a row of an image takes, and how many rows.
 ghost use Rattle.std.specs.Prelude.{◌≡◌, ℕ, ◌≤◌};
 ghost use Rattle.formats.specs.Extents.{is_side, extent_of, row_bytes_of, rows_of, Bounded};
+ghost use Rattle.formats.specs.Kinds.{bits_of, bytes_of};
 ghost use Rattle.formats.specs.Names.{name_of};
 ghost use Rattle.formats.specs.declared.kinds.FormatName.TheVariants.{Linear as LinearName, Paired as PairedName, Block as BlockName};
 ghost use Rattle.formats.specs.Bounds.{linear_bounded};
@@ -47,12 +48,12 @@ fn is_side(side: u32) -> bool
 }
 
 impl Family for Linear {
-    ghost row_bytes = { λ family. row_bytes_of (LinearName family.bits) };
+    ghost row_bytes = { λ family. row_bytes_of (LinearName (bits_of family)) };
 
-    ghost rows = { λ family. rows_of (LinearName family.bits) };
+    ghost rows = { λ family. rows_of (LinearName (bits_of family)) };
 
     ghost bounded = { λ family width height w1 w2 h1 h2.
-        linear_bounded family.bits width height family.ok w1 h1 };
+        linear_bounded (bits_of family) width height family.ok w1 h1 };
 
     fn ask(&self, width: u32, height: u32) -> Extent {
         if !is_side(width) || !is_side(height) {
@@ -84,9 +85,9 @@ impl Family for Paired {
 }
 
 impl Family for Block {
-    ghost row_bytes = { λ family. row_bytes_of (BlockName family.bytes) };
+    ghost row_bytes = { λ family. row_bytes_of (BlockName (bytes_of family)) };
 
-    ghost rows = { λ family. rows_of (BlockName family.bytes) };
+    ghost rows = { λ family. rows_of (BlockName (bytes_of family)) };
 
     ghost bounded = { Prim.search rules };
 
@@ -106,7 +107,7 @@ impl Family for Format {
     ghost rows = { λ format. rows_of (name_of format) };
 
     ghost bounded = { elim [
-      | Linear f ↦ λ width height w1 w2 h1 h2. linear_bounded f.bits width height f.ok w1 h1
+      | Linear f ↦ λ width height w1 w2 h1 h2. linear_bounded (bits_of f) width height f.ok w1 h1
       | Paired ↦ λ width height w1 w2 h1 h2. Prim.search rules
       | Block f ↦ λ width height w1 w2 h1 h2. Prim.search rules
     ] };

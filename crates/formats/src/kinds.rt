@@ -45,11 +45,13 @@ pub enum FormatName {
 }
 
 impl Linear {
+    ghost use Rattle.formats.specs.Kinds.{bits_of};
+
     /// Pixels of so many bits; none where no pixel has that size. An `if` and no `then`, whose closure would have to require the size again;
     /// so too for blocks.
     pub fn new(bits: u32) -> Option<Linear>
         ensures { MatchOption result (is_pixel_size bits ≡ false)
-            (λ f. (is_pixel_size bits ≡ true) × (f.bits ≡ bits)) }
+            (λ f. (is_pixel_size bits ≡ true) × (bits_of f ≡ bits)) }
     {
         if bits == 1 || bits % 8 == 0 && (8..=128).contains(&bits) {
             Some(Linear { bits })
@@ -60,7 +62,7 @@ impl Linear {
 
     /// How many bits a pixel has: 1 to 128.
     pub fn bits(self) -> u32
-        ensures value { result ≡ self.bits }
+        ensures value { result ≡ bits_of self }
         ensures bound { (1 ≤ result) × (result ≤ 128) }
     {
         self.bits
@@ -68,10 +70,12 @@ impl Linear {
 }
 
 impl Block {
+    ghost use Rattle.formats.specs.Kinds.{bytes_of};
+
     /// Blocks of so many bytes; none where no block has that size.
     pub fn new(bytes: u32) -> Option<Block>
         ensures { MatchOption result (is_block_size bytes ≡ false)
-            (λ f. (is_block_size bytes ≡ true) × (f.bytes ≡ bytes)) }
+            (λ f. (is_block_size bytes ≡ true) × (bytes_of f ≡ bytes)) }
     {
         if bytes == 8 || bytes == 16 {
             Some(Block { bytes })
@@ -82,7 +86,7 @@ impl Block {
 
     /// How many bytes a block has: 8 or 16.
     pub fn bytes(self) -> u32
-        ensures value { result ≡ self.bytes }
+        ensures value { result ≡ bytes_of self }
         ensures bound { (8 ≤ result) × (result ≤ 16) }
     {
         self.bytes

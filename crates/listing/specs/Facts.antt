@@ -1,13 +1,14 @@
 -- What a header says of its file, for people.
-use Rattle.std.specs.Prelude.{ℕ, List, Some, None, Ok, Err, Option, Result}
+use Rattle.std.specs.Prelude.{Some, None, Ok, Err, Option, Result}
 use Rattle.refusal.specs.declared.Refusal.{Refusal}
 use Rattle.refusal.specs.declared.Refusal.TheVariants.{UnknownFormat}
 use Rattle.formats.specs.declared.kinds.FormatName.{FormatName}
 use Rattle.formats.specs.Codes.{name_for, plain_rows}
 use Rattle.listing.specs.declared.facts.Facts.{Facts}
-use Rattle.listing.specs.Sources.{source_of}
 use Rattle.dds.specs.declared.header.Header.{Header}
 use Rattle.dds.specs.declared.shape.Shape.{Shape}
+use Rattle.dds.specs.Readings.{Reading}
+use Rattle.dds.specs.Sources.{source_of}
 use Rattle.dds.specs.Headers.{header_read, header_name}
 use Rattle.dds.specs.Levels.{levels_of}
 use Rattle.dds.specs.Shapes.{shape_read}
@@ -28,6 +29,6 @@ abbrev facts_in : Result Header Refusal → Result Facts Refusal
 facts_in (Err e) = Err e
 facts_in (Ok h) = facts_named h (header_name (name_for plain_rows) h)
 
--- a file's facts, up to the first refusal that applies
-abbrev pub facts_read : List ℕ → ℕ → Result Facts Refusal
-facts_read head n = facts_in (header_read head n)
+-- the facts in what is read of a file, up to the first refusal that applies
+abbrev pub facts_read : Reading → Result Facts Refusal
+facts_read x = facts_in (header_read x)

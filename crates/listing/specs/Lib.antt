@@ -1,4 +1,5 @@
-pub mod Sources
+pub use Rattle.dds.specs.Readings
+
 pub mod Facts
 pub mod Rows
 pub mod Texts

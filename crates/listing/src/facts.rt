@@ -1,9 +1,9 @@
 // What a header says of its file, for people.
 ghost use Rattle.std.specs.Prelude.{◌≡◌};
+ghost use Rattle.dds.specs.Readings.{reading_in};
 ghost use Rattle.listing.specs.Facts.{facts_read};
 
-use crate::source::{FormatSource, source_of};
-use dds::{FileHead, Header, Shape};
+use dds::{FileHead, FormatSource, Header, Shape};
 use formats::{BuiltInCodes, FormatName};
 use refusal::Refusal;
 
@@ -29,13 +29,13 @@ impl Facts {
     /// From a file's head and its length, with the built-in table of codes. Refuses as opening does, with 1 to 8 in their order, but does
     /// not look where the pieces end (9).
     pub fn read(head: FileHead<'_>) -> Result<Facts, Refusal>
-        ensures { result ≡ facts_read head.entry.bytes.now head.entry.length }
+        ensures { result ≡ facts_read (reading_in head.entry) }
     {
         let header = Header::read(head)?;
         let format = header.format(&BuiltInCodes).ok_or(Refusal::UnknownFormat)?;
         let shape = header.read_shape()?;
         Ok(Facts {
-            source: source_of(&header),
+            source: header.source(),
             format: FormatName::from(format),
             shape,
             width: header.width,

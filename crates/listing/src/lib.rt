@@ -3,11 +3,10 @@
 
 mod facts;
 mod row;
-mod source;
 #[cfg(test)]
 mod tests;
 mod text;
 
 pub use facts::Facts;
 pub use row::{Owner, Row};
-pub use source::{FormatSource, PixelKind};
+pub use dds::{FormatSource, PixelKind};

@@ -27,7 +27,7 @@ exists_parts t p e =
 
 pub lawful : (y : Layout) → Lawful y.table y.table.length
 lawful y =
-    let stands = entry_stands y.table y.chained y.ended in
+    let stands = entry_stands y.table y.sound in
     record {
       inside = λ p e. ((tiled y).inside _ (stands p (exists_parts y.table p e))).1;
       rows = λ p. refl;
@@ -39,4 +39,4 @@ lawful y =
 -- the area of a piece by the table's numbers is that of the piece in the list
 pub listed_area : (y : Layout) (p : Piece) → exists_in y.table p ≡ true → AreaOf y p (area_in y.table p)
 listed_area y p e =
-    record { stands = entry_stands y.table y.chained y.ended p (exists_parts y.table p e); row_bytes = refl; rows = refl; length = refl }
+    record { stands = entry_stands y.table y.sound p (exists_parts y.table p e); row_bytes = refl; rows = refl; length = refl }

@@ -4,6 +4,9 @@ use Rattle.refusal.specs.declared.Refusal.{Refusal}
 use Rattle.formats.specs.declared.kinds.FormatName.{FormatName}
 use Rattle.dds.specs.declared.header.Header.{Header}
 use Rattle.dds.specs.declared.layout.Layout.{Layout}
+use Rattle.dds.specs.declared.source.FormatSource.{FormatSource}
+use Rattle.dds.specs.Readings.{Reading}
+use Rattle.dds.specs.Sources.{source_of}
 use Rattle.dds.specs.Headers.{header_read, header_name}
 use Rattle.dds.specs.Layouts.{OpenedAs, OpenedIn, OpenedBy}
 use Rattle.loans.specs.Jobs.{Book, fresh_book}
@@ -15,16 +18,17 @@ use Rattle.loans.proofs.Runs.{law_run, ours_run}
 
 -- ---- the file has the length that the job writes down
 
-by_name : (head : List ℕ) (n : ℕ) (name : Option FormatName) (y : Layout) → OpenedAs head n name (Ok y) → y.table.length ≡ n
-by_name head n None y h = absurd cc
-by_name head n (Some name) y h = h.table.length
+by_name : (x : Reading) (source : FormatSource) (name : Option FormatName) (y : Layout) → OpenedAs x source name (Ok y) → y.table.length ≡ x.length
+by_name x source None y h = absurd cc
+by_name x source (Some name) y h = h.table.length
 
-by_header : (head : List ℕ) (n : ℕ) (names : ℕ → Option FormatName) (r : Result Header Refusal) (y : Layout) → OpenedIn head n names r (Ok y) → y.table.length ≡ n
-by_header head n names (Err e) y h = absurd cc
-by_header head n names (Ok header) y h = by_name head n (header_name names header) y h
+by_header : (x : Reading) (names : ℕ → Option FormatName) (r : Result Header Refusal) (y : Layout) → OpenedIn x names r (Ok y)
+    → y.table.length ≡ x.length
+by_header x names (Err e) y h = absurd cc
+by_header x names (Ok header) y h = by_name x (source_of header) (header_name names header) y h
 
-pub length_by_codes : (head : List ℕ) (n : ℕ) (names : ℕ → Option FormatName) (y : Layout) → OpenedBy head n names (Ok y) → y.table.length ≡ n
-length_by_codes head n names y h = by_header head n names (header_read head n) y h
+pub length_by_codes : (x : Reading) (names : ℕ → Option FormatName) (y : Layout) → OpenedBy x names (Ok y) → y.table.length ≡ x.length
+length_by_codes x names y h = by_header x names (header_read x) y h
 
 -- ---- with two empty shelves
 

@@ -1,8 +1,10 @@
 -- What opening a job answers and leaves.
-use Rattle.std.specs.Prelude.{◌≡◌, ℕ, List, length, take, Some, Ok, Err, Option, Result}
+use Rattle.std.specs.Prelude.{◌≡◌, ℕ, List, Some, Ok, Err, Option, Result}
 use Rattle.refusal.specs.declared.Refusal.{Refusal}
 use Rattle.formats.specs.declared.kinds.FormatName.{FormatName}
 use Rattle.dds.specs.declared.layout.Layout.{Layout}
+use Rattle.dds.specs.declared.source.FormatSource.TheVariants.{HandedIn}
+use Rattle.dds.specs.Readings.{reading_of}
 use Rattle.dds.specs.Layouts.{Opened, OpenedBy}
 use Rattle.loans.specs.declared.docket.Docket.{Docket}
 use Rattle.loans.specs.declared.job.Job.{Job}
@@ -17,8 +19,8 @@ JobOpened reads number s (Err e) t = reads (Err e) × (t ≡ s)
 
 -- with a family that is handed in
 abbrev pub OpenedWith : List ℕ → ℕ → (ℕ → ℕ → ℕ) → (ℕ → ℕ → ℕ) → Job → Result Docket Refusal → Job → Type 0
-OpenedWith file number row_bytes rows s r t = JobOpened (Opened (take 148 file) (length file) row_bytes rows) number s r t
+OpenedWith file number row_bytes rows s r t = JobOpened (Opened (reading_of file) HandedIn row_bytes rows) number s r t
 
 -- with a table of the codes other than DX10
 abbrev pub OpenedWithCodes : List ℕ → ℕ → (ℕ → Option FormatName) → Job → Result Docket Refusal → Job → Type 0
-OpenedWithCodes file number names s r t = JobOpened (OpenedBy (take 148 file) (length file) names) number s r t
+OpenedWithCodes file number names s r t = JobOpened (OpenedBy (reading_of file) names) number s r t

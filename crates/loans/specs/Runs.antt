@@ -3,6 +3,8 @@ use Rattle.std.specs.Prelude.{◌≡◌, ℕ, ◌+◌, ◌<◌, ◌≤◌, Bool,
 use Rattle.refusal.specs.declared.Refusal.{Refusal}
 use Rattle.refusal.specs.Meanings.{refusal_text}
 use Rattle.dds.specs.declared.layout.Layout.{Layout}
+use Rattle.dds.specs.declared.source.FormatSource.TheVariants.{HandedIn}
+use Rattle.dds.specs.Readings.{reading_of}
 use Rattle.dds.specs.Layouts.{Opened}
 use Rattle.loans.specs.declared.docket.Docket.{Docket}
 use Rattle.loans.specs.declared.job.Job.{Job}
@@ -48,7 +50,7 @@ pub record Ordered : Type 0 where
 
 -- what opening the file answers
 abbrev pub FileOpened : Ordered → Result Layout Refusal → Type 0
-FileOpened o r = Opened (take 148 o.file) (length o.file) o.row_bytes o.rows r
+FileOpened o r = Opened (reading_of o.file) HandedIn o.row_bytes o.rows r
 
 -- a run that was made: on any shelves each call went by its own rule, and they can hold as much as before; on two empty shelves the law
 -- holds of the file, the job, the shelves, the calls and their answers

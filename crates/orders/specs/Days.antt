@@ -6,6 +6,7 @@ use Rattle.refusal.specs.declared.Refusal.{Refusal}
 use Rattle.refusal.specs.declared.Refusal.TheVariants.{MalformedOrder, OverLimit}
 use Rattle.formats.specs.Codes.{name_for, plain_rows}
 use Rattle.dds.specs.declared.layout.Layout.{Layout}
+use Rattle.dds.specs.Readings.{reading_of}
 use Rattle.dds.specs.Layouts.{OpenedBy}
 use Rattle.loans.specs.Stocks.{empty_stock}
 use Rattle.loans.specs.Strokes.{State}
@@ -61,7 +62,7 @@ room_for orders = if nat_lt LONGEST_ORDERS (length orders) then 0 else 6 * lengt
 
 -- what opening the texture answers
 abbrev pub MasterOpened : DayInputs → Result Layout Refusal → Type 0
-MasterOpened g r = OpenedBy (take 148 g.master) (length g.master) (name_for plain_rows) r
+MasterOpened g r = OpenedBy (reading_of g.master) (name_for plain_rows) r
 
 -- the job and the shelves at first: number 1, and room for 64 marks and 4,096 bytes
 abbrev pub morning : Layout → List ℕ → State

@@ -36,8 +36,8 @@ split c =
     let few = c.loop-level.invariant.1 in
     let all = take_all c.loop-level.level-index xs c.loop-level-test.false in
     let counted : c.loop-level.begun ≡ length (filter begun xs) = c.loop-level.invariant.0 ∙ ap (λ ys. length (filter begun ys)) all in
-    let first = passing_first begun xs (begins_split s.table s.counted s.chained s.ended c.args.offset xs e.levels e.count) in
-    holding s.table s.counted s.chained s.ended c.args.offset c.loop-level.begun xs e.levels e.count (omega (arith, few, c.loop-level.auto.level-index-end))
+    let first = passing_first begun xs (begins_split s.table s.sound c.args.offset xs e.levels e.count) in
+    holding s.table s.sound c.args.offset c.loop-level.begun xs e.levels e.count (omega (arith, few, c.loop-level.auto.level-index-end))
     (subst (λ i. IsPartitionPoint (λ l. begun l ≡ true) (λ l. begun l ≡ false) xs i) (sym counted) first)
 
 pub overflow_sub-result : goal.overflow_sub-result

@@ -1,3 +1,5 @@
+use Rattle.std.proofs.Common.{◌/◌, ◌<◌, ◌≤◌, subst}
+use Rattle.dds.specs.declared.layout.Layout.{Layout}
 use Rattle.dds.proofs.Numbering.{per_some, piece_found, piece_none, rest_below}
 use Rattle.dds.proofs.layout.Layout.piece_number.Goals as goal
 
@@ -6,7 +8,8 @@ nonzero_rem-number c = per_some c.args.self.now c.pieces_per_element-pieces.resu
 
 pub returns-then-element-self : goal.returns-then-element-self
 returns-then-element-self c =
-    piece_none c.args.self.now c.pieces_per_element-pieces.result c.pieces_per_element-pieces.ensures c.args.number c.if-element-self.true
+    piece_none c.args.self.now c.pieces_per_element-pieces.result c.pieces_per_element-pieces.ensures c.args.number
+    (subst (λ (y : Layout). y.table.elements ≤ c.args.number / c.pieces_per_element-pieces.result) c.self.view_is c.if-element-self.true)
 
 pub returns-in_err-level : goal.returns-in_err-level
 returns-in_err-level c =
@@ -16,4 +19,5 @@ pub returns : goal.returns
 returns c =
     let s = c.in_ok-level.ensures in
     piece_found c.args.self.now c.pieces_per_element-pieces.result c.pieces_per_element-pieces.ensures
-    c.args.number c.in_ok-level.level c.in_ok-level.slice c.if-element-self.false s.0 s.1 s.2
+    c.args.number c.in_ok-level.level c.in_ok-level.slice
+    (subst (λ (y : Layout). c.args.number / c.pieces_per_element-pieces.result < y.table.elements) c.self.view_is c.if-element-self.false) s.0 s.1 s.2

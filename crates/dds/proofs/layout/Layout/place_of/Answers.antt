@@ -1,4 +1,6 @@
+use Rattle.std.proofs.Common.{◌<◌, subst}
 use Rattle.std.proofs.lemmas.Option.{MatchOption-at_some}
+use Rattle.dds.specs.declared.layout.Layout.{Layout}
 use Rattle.dds.proofs.Placing.{Found, found_fits, found_area, found_where, tiled}
 use Rattle.dds.proofs.layout.Layout.place_of.Goals as goal
 
@@ -15,7 +17,7 @@ place_in-requires c =
     (record {
       some = found.0;
       level = found.1;
-      element = c.if-piece-self.false;
+      element = subst (λ (y : Layout). c.args.piece.element < y.table.elements) c.self.view_is c.if-piece-self.false;
       slice = c.if-piece-level.false;
     })
 
@@ -25,7 +27,7 @@ returns c =
     let f : Found c.args.self.now c.in_ok-level.level c.args.piece = record {
       some = found.0;
       level = found.1;
-      element = c.if-piece-self.false;
+      element = subst (λ (y : Layout). c.args.piece.element < y.table.elements) c.self.view_is c.if-piece-self.false;
       slice = c.if-piece-level.false;
     } in
     record {

@@ -3,10 +3,10 @@ use Rattle.std.specs.Prelude.{ℕ, if◌then◌else◌}
 use Rattle.formats.specs.BitCounts.{is_set}
 use Rattle.dds.specs.declared.header.Header.{Header}
 use Rattle.dds.specs.Headers.{code_decides, is_extended}
-use Rattle.listing.specs.declared.source.PixelKind.{PixelKind}
-use Rattle.listing.specs.declared.source.PixelKind.TheVariants.{Rgba, Rgb, LuminanceWithAlpha, Luminance, Yuv, Alpha}
-use Rattle.listing.specs.declared.source.FormatSource.{FormatSource}
-use Rattle.listing.specs.declared.source.FormatSource.TheVariants.{Code, Dxgi, BitCount}
+use Rattle.dds.specs.declared.source.PixelKind.{PixelKind}
+use Rattle.dds.specs.declared.source.PixelKind.TheVariants.{Rgba, Rgb, LuminanceWithAlpha, Luminance, Yuv, Alpha}
+use Rattle.dds.specs.declared.source.FormatSource.{FormatSource}
+use Rattle.dds.specs.declared.source.FormatSource.TheVariants.{Code, Dxgi, BitCount}
 
 -- what plain pixels hold, by the pixel flags: 0x40 is colour, 0x20000 luminance, 0x200 luma and chroma, 0x1 alpha besides; alpha only
 -- is left

@@ -1,8 +1,8 @@
-// Where a header says its format.
+// Where the format of a file comes from.
 ghost use Rattle.std.specs.Prelude.{◌≡◌};
-ghost use Rattle.listing.specs.Sources.{kind_of, source_of};
+ghost use Rattle.dds.specs.Sources.{kind_of, source_of};
 
-use dds::Header;
+use crate::header::Header;
 
 /// What plain pixels hold, as the pixel flags tell it.
 #[derive(Clone, Copy, PartialEq, Eq, Debug)]
@@ -21,7 +21,7 @@ pub enum PixelKind {
     Alpha,
 }
 
-/// Where a header says its format, as users know it.
+/// Where the format of a file comes from: where its header says it, as users know it, or the caller.
 #[derive(Clone, Copy, PartialEq, Eq, Debug)]
 pub enum FormatSource {
     /// The code of a plain header.
@@ -30,6 +30,8 @@ pub enum FormatSource {
     Dxgi(u32),
     /// The pixel flags, and how many bits a pixel has.
     BitCount { kind: PixelKind, bits: u32 },
+    /// The caller, who handed a family in. No header says this.
+    HandedIn,
 }
 
 // The pixel flags that tell what plain pixels hold: an alpha channel besides, alpha only, colour, luma and chroma, luminance.
@@ -66,18 +68,20 @@ fn kind_of(pixel_flags: u32) -> PixelKind
     }
 }
 
-// Where a header says its format.
-pub(crate) fn source_of(header: &Header) -> FormatSource
-    ensures { result ≡ source_of header.now }
-{
-    if header.is_extended() {
-        FormatSource::Dxgi(header.dxgi_code)
-    } else if header.pixel_flags & 0x4 != 0 {
-        FormatSource::Code(header.code)
-    } else {
-        FormatSource::BitCount {
-            kind: kind_of(header.pixel_flags),
-            bits: header.bit_count,
+impl Header {
+    /// Where the header says its format.
+    pub fn source(&self) -> FormatSource
+        ensures { result ≡ source_of self.now }
+    {
+        if self.is_extended() {
+            FormatSource::Dxgi(self.dxgi_code)
+        } else if self.code_decides() {
+            FormatSource::Code(self.code)
+        } else {
+            FormatSource::BitCount {
+                kind: kind_of(self.pixel_flags),
+                bits: self.bit_count,
+            }
         }
     }
 }
