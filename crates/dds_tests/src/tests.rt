@@ -246,12 +246,21 @@ fn bytes_of_an_array_with_a_format_handed_in(rt: HostRuntime) -> Result<(), Fail
 fn origins(rt: HostRuntime) -> Result<(), Fail> {
     let file = file_with(&rt, rt.alloc(), &XFLAT, 148, 352)?;
     let named = Layout::read(FileHead::of(&file), &BuiltInCodes)?.origin();
-    assert_eq!(rt; named.map(|origin| origin.source), Some(FormatSource::Dxgi(28)));
+    assert_eq!(rt;
+        named.map(|origin| origin.source),
+        Some(FormatSource::Dxgi(28))
+    );
     assert_eq!(rt; named.map(|origin| origin.shape), Some(Shape::Flat(3)));
     let format = Format::try_from(FormatName::Linear(32))?;
     let handed = Layout::read_with(FileHead::of(&file), &format)?.origin();
-    assert_eq!(rt; handed.map(|origin| origin.source), Some(FormatSource::HandedIn));
-    assert_eq!(rt; handed.map(|origin| origin.header), named.map(|origin| origin.header));
+    assert_eq!(rt;
+        handed.map(|origin| origin.source),
+        Some(FormatSource::HandedIn)
+    );
+    assert_eq!(rt;
+        handed.map(|origin| origin.header),
+        named.map(|origin| origin.header)
+    );
     assert!(rt; Layout::empty().origin().is_none());
     Ok(())
 }

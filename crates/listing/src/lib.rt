@@ -7,6 +7,6 @@ mod row;
 mod tests;
 mod text;
 
+pub use dds::{FormatSource, PixelKind};
 pub use facts::Facts;
 pub use row::{Owner, Row};
-pub use dds::{FormatSource, PixelKind};
