@@ -57,7 +57,6 @@ impl Job {
 
     /// Opens a file by the format that its header names, with a table of the codes other than DX10, whatever the job held. Refuses as
     /// Layout::read does, and then changes nothing.
-    #[tactic(auto, using(crate::proofs::Opened::length_by_codes))]
     pub fn open<T: CodeTable>(
         &mut self,
         file: &[u8],
