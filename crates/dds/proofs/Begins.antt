@@ -3,9 +3,9 @@ use Rattle.std.proofs.Common.{◌≡◌, ℕ, zero, suc, ◌+◌, ◌*◌, ◌/�
 use Rattle.std.proofs.lemmas.Nat.{mul-le}
 use Rattle.std.proofs.lemmas.Bool.{cond-true}
 use Rattle.std.proofs.lemmas.Bool.Decides.{nat_tests}
-use Rattle.formats.specs.declared.family.Extent.{Extent}
+use Rattle.formats.specs.declared.extent.Extent.{Extent}
 use Rattle.formats.specs.Extents.{Bounded, extent_of, is_side}
-use Rattle.dds.specs.declared.table.Sides.{Sides}
+use Rattle.dds.specs.declared.sides.Sides.{Sides}
 use Rattle.dds.specs.Levels.{side_at}
 use Rattle.dds.specs.Plans.{size_at, begin_at}
 use Rattle.dds.specs.Tables.{InRange, level_at, level_with}

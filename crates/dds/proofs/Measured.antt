@@ -4,8 +4,8 @@ use Rattle.std.proofs.lemmas.Bool.{cond-true, cond-false, and_parts, lt-ltb, cas
 use Rattle.std.proofs.lemmas.Bool.Decides.{nat_tests}
 use Rattle.refusal.specs.declared.Refusal.{Refusal}
 use Rattle.refusal.specs.declared.Refusal.TheVariants.{OutOfRange, TooManyLevels, WrongEnd, PastFileEnd}
-use Rattle.formats.specs.declared.kinds.FormatName.{FormatName}
-use Rattle.formats.specs.declared.kinds.FormatName.TheVariants.{Linear, Block}
+use Rattle.formats.specs.declared.format_name.FormatName.{FormatName}
+use Rattle.formats.specs.declared.format_name.FormatName.TheVariants.{Linear, Block}
 use Rattle.formats.specs.Codes.{name_for, plain_rows, dxgi_rows, name_in}
 use Rattle.formats.specs.Extents.{row_bytes_of, rows_of}
 use Rattle.dds.specs.declared.header.Header.{Header}

@@ -8,7 +8,7 @@ use Rattle.std.specs.List.{AllWithin}
 use Rattle.std.specs.List.Sorted.{IsPartitionedBy, IsPartitionPoint}
 use Rattle.dds.specs.declared.level.Level.{Level}
 use Rattle.dds.specs.declared.piece.Piece.{Piece}
-use Rattle.dds.specs.declared.places.Spot.{Spot}
+use Rattle.dds.specs.declared.spot.Spot.{Spot}
 use Rattle.dds.specs.declared.table.Table.{Table}
 use Rattle.dds.specs.Plans.{begin_at, stride_of}
 use Rattle.dds.specs.Sound.{slices_in, size_in, plan_in, Sound}

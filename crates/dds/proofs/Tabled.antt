@@ -6,7 +6,7 @@ use Rattle.dds.specs.declared.header.Header.{Header}
 use Rattle.dds.specs.declared.level.Level.{Level}
 use Rattle.dds.specs.declared.piece.Piece.{Piece}
 use Rattle.dds.specs.declared.shape.Shape.{Shape}
-use Rattle.dds.specs.declared.table.Sides.{Sides}
+use Rattle.dds.specs.declared.sides.Sides.{Sides}
 use Rattle.dds.specs.declared.table.Table.{Table}
 use Rattle.dds.specs.LevelEnds.{piece_length, total_of}
 use Rattle.dds.specs.Levels.{levels_of, side_at}

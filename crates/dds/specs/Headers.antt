@@ -2,7 +2,7 @@
 use Rattle.std.specs.Prelude.{ℕ, ◌+◌, ◌*◌, Bool, cond, not, ◌&&◌, ◌||◌, List, length, Ok, Err, Option, Result, ◌==◌, nat_le, nat_lt, slice_index}
 use Rattle.refusal.specs.declared.Refusal.{Refusal}
 use Rattle.refusal.specs.declared.Refusal.TheVariants.{WrongLength, WrongMagic, WrongHeaderSize, ShortExtendedHeader}
-use Rattle.formats.specs.declared.kinds.FormatName.{FormatName}
+use Rattle.formats.specs.declared.format_name.FormatName.{FormatName}
 use Rattle.formats.specs.Codes.{name_for, dxgi_rows}
 use Rattle.formats.specs.BitCounts.{is_set, name_by_bit_count}
 use Rattle.dds.specs.declared.header.Header.{Header}

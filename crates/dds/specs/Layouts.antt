@@ -2,12 +2,12 @@
 use Rattle.std.specs.Prelude.{◌≡◌, ℕ, ◌<◌, cond, List, Some, None, Ok, Err, Option, Result, nat_lt, slice_index_or}
 use Rattle.refusal.specs.declared.Refusal.{Refusal}
 use Rattle.refusal.specs.declared.Refusal.TheVariants.{UnknownFormat, WrongEnd}
-use Rattle.formats.specs.declared.kinds.FormatName.{FormatName}
+use Rattle.formats.specs.declared.format_name.FormatName.{FormatName}
 use Rattle.formats.specs.Extents.{row_bytes_of, rows_of}
 use Rattle.dds.specs.declared.header.Header.{Header}
 use Rattle.dds.specs.declared.shape.Shape.{Shape}
 use Rattle.dds.specs.declared.table.Table.{Table}
-use Rattle.dds.specs.declared.table.Sides.{Sides}
+use Rattle.dds.specs.declared.sides.Sides.{Sides}
 use Rattle.dds.specs.declared.layout.Layout.{Layout}
 use Rattle.dds.specs.declared.origin.Origin.{Origin}
 use Rattle.dds.specs.declared.source.FormatSource.{FormatSource}

@@ -3,8 +3,8 @@ use Rattle.std.specs.Prelude.{ℕ, if◌then◌else◌}
 use Rattle.formats.specs.BitCounts.{is_set}
 use Rattle.dds.specs.declared.header.Header.{Header}
 use Rattle.dds.specs.Headers.{code_decides, is_extended}
-use Rattle.dds.specs.declared.source.PixelKind.{PixelKind}
-use Rattle.dds.specs.declared.source.PixelKind.TheVariants.{Rgba, Rgb, LuminanceWithAlpha, Luminance, Yuv, Alpha}
+use Rattle.dds.specs.declared.pixel_kind.PixelKind.{PixelKind}
+use Rattle.dds.specs.declared.pixel_kind.PixelKind.TheVariants.{Rgba, Rgb, LuminanceWithAlpha, Luminance, Yuv, Alpha}
 use Rattle.dds.specs.declared.source.FormatSource.{FormatSource}
 use Rattle.dds.specs.declared.source.FormatSource.TheVariants.{Code, Dxgi, BitCount}
 

@@ -1,6 +1,6 @@
 -- Where a byte lies in its element.
 use Rattle.std.specs.Prelude.{◌≡◌, ℕ, ◌+◌, ◌*◌, ◌<◌, slice_index_or}
-use Rattle.dds.specs.declared.places.Spot.{Spot}
+use Rattle.dds.specs.declared.spot.Spot.{Spot}
 use Rattle.dds.specs.declared.table.Table.{Table}
 use Rattle.dds.specs.Sound.{slices_in, size_in}
 use Rattle.dds.specs.Tables.{blank}

@@ -1,8 +1,8 @@
 -- The table of a file's levels.
 use Rattle.std.specs.Prelude.{◌≡◌, ℕ, ◌<◌, ◌≤◌, List, length, slice_index_or}
-use Rattle.formats.specs.declared.family.Extent.{Extent}
+use Rattle.formats.specs.declared.extent.Extent.{Extent}
 use Rattle.dds.specs.declared.level.Level.{Level}
-use Rattle.dds.specs.declared.table.Sides.{Sides}
+use Rattle.dds.specs.declared.sides.Sides.{Sides}
 use Rattle.dds.specs.Levels.{side_at}
 use Rattle.dds.specs.Plans.{size_at, begin_at}
 

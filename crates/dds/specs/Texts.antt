@@ -8,8 +8,8 @@ use Rattle.dds.specs.declared.area.Area.{Area}
 use Rattle.dds.specs.declared.piece.Piece.{Piece}
 use Rattle.dds.specs.declared.shape.Shape.{Shape}
 use Rattle.dds.specs.declared.shape.Shape.TheVariants.{Line, Flat, Cube, Volume}
-use Rattle.dds.specs.declared.source.PixelKind.{PixelKind}
-use Rattle.dds.specs.declared.source.PixelKind.TheVariants.{Rgba, Rgb, LuminanceWithAlpha, Luminance, Yuv, Alpha}
+use Rattle.dds.specs.declared.pixel_kind.PixelKind.{PixelKind}
+use Rattle.dds.specs.declared.pixel_kind.PixelKind.TheVariants.{Rgba, Rgb, LuminanceWithAlpha, Luminance, Yuv, Alpha}
 use Rattle.dds.specs.declared.source.FormatSource.{FormatSource}
 use Rattle.dds.specs.declared.source.FormatSource.TheVariants.{Code, Dxgi, BitCount, HandedIn}
 

@@ -4,7 +4,7 @@ ghost use Rattle.dds.specs.Tables.{level_with, InRange, IsChain};
 ghost use Rattle.formats.specs.Extents.{extent_of};
 
 use crate::level::Level;
-use crate::table::Sides;
+use crate::sides::Sides;
 use formats::Family;
 
 impl Sides {

@@ -8,15 +8,8 @@ use crate::area::Area;
 use crate::layout::Layout;
 use crate::level::Level;
 use crate::piece::Piece;
+use crate::spot::Spot;
 use refusal::Refusal;
-
-/// Where a byte lies in its element: a level, a slice of it, and the byte's offset in that piece.
-#[derive(Clone, Copy)]
-pub struct Spot {
-    pub level: u32,
-    pub slice: u32,
-    pub offset: u32,
-}
 
 impl Layout {
     // The level that has the byte at an offset in its element: the last that begins there or before. Those that do are counted and

@@ -3,23 +3,7 @@ ghost use Rattle.std.specs.Prelude.{◌≡◌};
 ghost use Rattle.dds.specs.Sources.{kind_of, source_of};
 
 use crate::header::Header;
-
-/// What plain pixels hold, as the pixel flags tell it.
-#[derive(Clone, Copy, PartialEq, Eq, Debug)]
-pub enum PixelKind {
-    /// Colour, and an alpha channel besides.
-    Rgba,
-    /// Colour.
-    Rgb,
-    /// Luminance, and an alpha channel besides.
-    LuminanceWithAlpha,
-    /// Luminance.
-    Luminance,
-    /// Luma and chroma.
-    Yuv,
-    /// Alpha only.
-    Alpha,
-}
+use crate::pixel_kind::PixelKind;
 
 /// Where the format of a file comes from: where its header says it, as users know it, or the caller.
 #[derive(Clone, Copy, PartialEq, Eq, Debug)]

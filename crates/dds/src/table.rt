@@ -1,14 +1,6 @@
 // The table of a texture's levels.
 use crate::level::Level;
 
-/// The sides of an image, and how many such images a level stacks.
-#[derive(Clone, Copy)]
-pub struct Sides {
-    pub width: u32,
-    pub height: u32,
-    pub depth: u32,
-}
-
 /// Where all pieces of a file stand. The first `level_count` entries of `levels` are the levels of every element; the others
 /// are blank. An element's bytes are `stride`; pixel data run from `pixel_begin` to `pixel_end`; the file has `length` bytes.
 #[derive(Clone, Copy)]

@@ -7,8 +7,9 @@ ghost use Rattle.dds.specs.Texts.{kind_text, source_text, shape_text, piece_text
 
 use crate::area::Area;
 use crate::piece::Piece;
+use crate::pixel_kind::PixelKind;
 use crate::shape::Shape;
-use crate::source::{FormatSource, PixelKind};
+use crate::source::FormatSource;
 use formats::dxgi_name;
 use std::{fmt, str};
 

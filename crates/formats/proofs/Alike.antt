@@ -6,8 +6,8 @@ use Rattle.std.proofs.lemmas.Bool.Decides.{nat_tests}
 use Rattle.formats.specs.Codes.{name_in, Names, Row, ranges, name_for, Unambiguous}
 use Rattle.formats.specs.Names.{admitted, admitted_of}
 use Rattle.formats.specs.Sizes.{is_pixel_size, is_block_size}
-use Rattle.formats.specs.declared.kinds.FormatName.{FormatName}
-use Rattle.formats.specs.declared.kinds.FormatName.TheVariants.{Linear, Paired, Block}
+use Rattle.formats.specs.declared.format_name.FormatName.{FormatName}
+use Rattle.formats.specs.declared.format_name.FormatName.TheVariants.{Linear, Paired, Block}
 use Rattle.formats.specs.declared.tables.CodeRange.{CodeRange}
 
 abbrev same_name : FormatName → FormatName → Bool

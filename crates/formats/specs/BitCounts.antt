@@ -1,8 +1,8 @@
 -- Which format pixel flags and a bit count mean, where no code decides.
 use Rattle.std.specs.Prelude.{ℕ, Bool, cond, not, ◌&&◌, [], ◌∷◌, Some, None, Option, ◌==◌, bit_and}
 use Rattle.std.specs.List.{list_any}
-use Rattle.formats.specs.declared.kinds.FormatName.{FormatName}
-use Rattle.formats.specs.declared.kinds.FormatName.TheVariants.{Linear}
+use Rattle.formats.specs.declared.format_name.FormatName.{FormatName}
+use Rattle.formats.specs.declared.format_name.FormatName.TheVariants.{Linear}
 
 -- some bit of the mask is set
 abbrev pub is_set : ℕ → ℕ → Bool

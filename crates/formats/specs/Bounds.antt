@@ -3,7 +3,7 @@ use Rattle.std.specs.Prelude.{◌≡◌, ℕ, ◌*◌, ◌≤◌, true}
 use Rattle.std.proofs.Common.{mul-le-mul_left, le_refl, arith, rules}
 use Rattle.formats.specs.Sizes.{is_pixel_size}
 use Rattle.formats.specs.Extents.{Bounded, row_bytes_of, rows_of}
-use Rattle.formats.specs.declared.kinds.FormatName.TheVariants.{Linear}
+use Rattle.formats.specs.declared.format_name.FormatName.TheVariants.{Linear}
 
 bits_bounds : (bits : ℕ) → is_pixel_size bits ≡ true → (1 ≤ bits) × (bits ≤ 128)
 bits_bounds bits e = search rules

@@ -1,8 +1,8 @@
 -- Which codes name which format, as two tables: one for DXGI codes, one for the other codes.
 use Rattle.std.specs.Prelude.{◌≡◌, ℕ, ◌+◌, ◌*◌, ◌≤◌, Bool, cond, ◌&&◌, ◌⊎◌, List, [], ◌∷◌, ◌++◌, map, Some, None, codes, Option, nat_le}
 use Prim.Native.String.{String}
-use Rattle.formats.specs.declared.kinds.FormatName.{FormatName}
-use Rattle.formats.specs.declared.kinds.FormatName.TheVariants.{Linear, Paired, Block}
+use Rattle.formats.specs.declared.format_name.FormatName.{FormatName}
+use Rattle.formats.specs.declared.format_name.FormatName.TheVariants.{Linear, Paired, Block}
 use Rattle.formats.specs.declared.tables.CodeRange.{CodeRange}
 
 -- a format, with the ranges of codes that name it

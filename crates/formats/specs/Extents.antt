@@ -1,8 +1,8 @@
 -- What an image takes in a family: the bytes of a row and the number of rows.
 use Rattle.std.specs.Prelude.{ℕ, ◌+◌, ◌*◌, ◌/◌, ◌≤◌, Bool, cond, ◌&&◌, nat_le}
-use Rattle.formats.specs.declared.family.Extent.{Extent}
-use Rattle.formats.specs.declared.kinds.FormatName.{FormatName}
-use Rattle.formats.specs.declared.kinds.FormatName.TheVariants.{Linear, Paired, Block}
+use Rattle.formats.specs.declared.extent.Extent.{Extent}
+use Rattle.formats.specs.declared.format_name.FormatName.{FormatName}
+use Rattle.formats.specs.declared.format_name.FormatName.TheVariants.{Linear, Paired, Block}
 
 -- a number is at least 1 and at most so large
 abbrev pub within : ℕ → ℕ → Bool

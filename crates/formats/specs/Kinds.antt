@@ -1,7 +1,7 @@
 -- What the families with a size show of it.
 use Rattle.std.specs.Prelude.{ℕ}
-use Rattle.formats.specs.declared.kinds.Linear.{Linear}
-use Rattle.formats.specs.declared.kinds.Block.{Block}
+use Rattle.formats.specs.declared.linear.Linear.{Linear}
+use Rattle.formats.specs.declared.block.Block.{Block}
 
 -- the bits of a pixel
 abbrev pub bits_of : Linear → ℕ

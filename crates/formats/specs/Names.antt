@@ -1,9 +1,9 @@
 -- What a format is called, and which names stand for a format.
 use Rattle.std.specs.Prelude.{◌≡◌, cond, Some, None, Option, Result, MatchResult}
-use Rattle.formats.specs.declared.kinds.Format.{Format}
-use Rattle.formats.specs.declared.kinds.Format.TheVariants as format
-use Rattle.formats.specs.declared.kinds.FormatName.{FormatName}
-use Rattle.formats.specs.declared.kinds.FormatName.TheVariants.{Linear, Paired, Block}
+use Rattle.formats.specs.declared.format.Format.{Format}
+use Rattle.formats.specs.declared.format.Format.TheVariants as format
+use Rattle.formats.specs.declared.format_name.FormatName.{FormatName}
+use Rattle.formats.specs.declared.format_name.FormatName.TheVariants.{Linear, Paired, Block}
 use Rattle.formats.specs.declared.names.NoSuchSize.{NoSuchSize}
 use Rattle.formats.specs.Kinds.{bits_of, bytes_of}
 use Rattle.formats.specs.Sizes.{is_pixel_size, is_block_size}

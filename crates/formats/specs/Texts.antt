@@ -1,7 +1,7 @@
 -- A format's name as text.
 use Rattle.std.specs.Prelude.{ℕ, List, ◌++◌, codes, decimal, if◌then◌else◌, ◌==◌}
-use Rattle.formats.specs.declared.kinds.FormatName.{FormatName}
-use Rattle.formats.specs.declared.kinds.FormatName.TheVariants.{Linear, Paired, Block}
+use Rattle.formats.specs.declared.format_name.FormatName.{FormatName}
+use Rattle.formats.specs.declared.format_name.FormatName.TheVariants.{Linear, Paired, Block}
 
 -- the arrangement, then the bits of a pixel or the bytes of a block
 abbrev pub name_text : FormatName → List ℕ

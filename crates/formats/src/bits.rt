@@ -4,7 +4,8 @@ ghost use Rattle.std.specs.Option.{option_map};
 ghost use Rattle.formats.specs.Names.{name_of};
 ghost use Rattle.formats.specs.BitCounts.{name_by_bit_count};
 
-use crate::kinds::{Format, Linear};
+use crate::format::Format;
+use crate::linear::Linear;
 
 // The pixel flags that announce plain pixels: alpha only, colour, luma and chroma, luminance.
 const ALPHA: u32 = 0x2;

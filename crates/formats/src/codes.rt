@@ -1,11 +1,12 @@
 // Which format the codes of a plain header name: four letters, or a number.
 ghost use Rattle.std.specs.Prelude.{◌≡◌, ℕ, Option};
 ghost use Rattle.std.specs.Option.{option_map};
-ghost use Rattle.formats.specs.declared.kinds.FormatName.{FormatName};
+ghost use Rattle.formats.specs.declared.format_name.FormatName.{FormatName};
 ghost use Rattle.formats.specs.Names.{name_of};
 ghost use Rattle.formats.specs.Codes.{name_for, plain_rows, Unambiguous};
 
-use crate::kinds::{Format, FormatName};
+use crate::format::Format;
+use crate::format_name::FormatName;
 use crate::tables::{CodeRow, format_in};
 
 /// A table of the codes other than DX10, known by the name that it has for each code. Asking changes nothing in it.

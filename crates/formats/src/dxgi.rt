@@ -4,7 +4,8 @@ ghost use Rattle.std.specs.Option.{option_map};
 ghost use Rattle.formats.specs.Names.{name_of};
 ghost use Rattle.formats.specs.Codes.{name_for, dxgi_rows, Unambiguous};
 
-use crate::kinds::{Format, FormatName};
+use crate::format::Format;
+use crate::format_name::FormatName;
 use crate::tables::{CodeRange, format_in};
 
 // The codes of Microsoft's DXGI_FORMAT enumeration whose images these families lay out.

@@ -1,5 +1,5 @@
 // Written by tools/expected_formats.py, which says how the values were computed.
-use crate::kinds::FormatName;
+use crate::format_name::FormatName;
 
 // What images take in one format: the bytes of a row at each width of SIDES, and the rows at each height.
 pub struct Sizes {

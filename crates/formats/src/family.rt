@@ -3,22 +3,16 @@ ghost use Rattle.std.specs.Prelude.{◌≡◌, ℕ, ◌≤◌};
 ghost use Rattle.formats.specs.Extents.{is_side, extent_of, row_bytes_of, rows_of, Bounded};
 ghost use Rattle.formats.specs.Kinds.{bits_of, bytes_of};
 ghost use Rattle.formats.specs.Names.{name_of};
-ghost use Rattle.formats.specs.declared.kinds.FormatName.TheVariants.{Linear as LinearName, Paired as PairedName, Block as BlockName};
+ghost use Rattle.formats.specs.declared.format_name.FormatName.TheVariants.{Linear as LinearName, Paired as PairedName, Block as BlockName};
 ghost use Rattle.formats.specs.Bounds.{linear_bounded};
-ghost use Rattle.std.proofs.Common.{rules, arith};
-ghost use Rattle.formats.specs.declared.kinds.Format.TheVariants.{Linear, Paired, Block};
+ghost use Rattle.std.proofs.Common.{rules};
+ghost use Rattle.formats.specs.declared.format.Format.TheVariants.{Linear, Paired, Block};
 
-use crate::kinds::{Block, Format, Linear, Paired};
-
-/// What an image takes in the file: rows one after the other, each of so many bytes.
-/// Of an image with a side out of range it is the default: nothing.
-#[derive(Clone, Copy, PartialEq, Eq, Debug, Default)]
-pub struct Extent {
-    /// how many bytes a row has
-    pub row_bytes: u32,
-    /// how many rows there are
-    pub rows: u32,
-}
+use crate::block::Block;
+use crate::extent::Extent;
+use crate::format::Format;
+use crate::linear::Linear;
+use crate::paired::Paired;
 
 /// A way to lay an image out, known by two functions of its width and height: the bytes of a row and the number of rows.
 /// Whoever adds one shows that its answers are these two functions, and that the law holds. Asking changes nothing in it: it can

@@ -3,7 +3,10 @@ ghost use Rattle.std.specs.Prelude.{◌≡◌, ◌++◌, codes, Some};
 ghost use Rattle.formats.specs.Names.{name_of, Reads};
 ghost use Rattle.formats.specs.Texts.{name_text};
 
-use crate::kinds::{Block, Format, FormatName, Linear};
+use crate::block::Block;
+use crate::format::Format;
+use crate::format_name::FormatName;
+use crate::linear::Linear;
 use std::error::Error;
 use std::fmt;
 

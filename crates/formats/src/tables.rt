@@ -5,7 +5,8 @@ ghost use Rattle.std.specs.Option.{option_map};
 ghost use Rattle.formats.specs.Names.{name_of, admitted_of};
 ghost use Rattle.formats.specs.Codes.{name_in, has_code};
 
-use crate::kinds::{Format, FormatName};
+use crate::format::Format;
+use crate::format_name::FormatName;
 
 /// The codes from `first` to `last`, both included, name one format.
 #[derive(Clone, Copy)]

@@ -1,11 +1,15 @@
 // The crate against values that were computed outside of it.
 use crate::bits::bit_count_format;
+use crate::block::Block;
 use crate::codes::{BuiltInCodes, CodeTable};
 use crate::dxgi::dxgi_format;
 use crate::dxgi_names::dxgi_name;
 use crate::expected::{DXGI, DXGI_NAMES, PLAIN, SIDES, SIZES, Sizes};
-use crate::family::{Extent, Family};
-use crate::kinds::{Block, Format, FormatName, Linear};
+use crate::extent::Extent;
+use crate::family::Family;
+use crate::format::Format;
+use crate::format_name::FormatName;
+use crate::linear::Linear;
 use crate::names::NoSuchSize;
 use std::process::Abort;
 use std::test::Fail;

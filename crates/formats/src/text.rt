@@ -2,7 +2,7 @@
 ghost use Rattle.std.specs.Prelude.{◌++◌, Some};
 ghost use Rattle.formats.specs.Texts.{name_text};
 
-use crate::kinds::FormatName;
+use crate::format_name::FormatName;
 use std::fmt;
 
 impl fmt::Display for FormatName {

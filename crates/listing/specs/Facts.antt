@@ -2,7 +2,7 @@
 use Rattle.std.specs.Prelude.{Some, None, Ok, Err, Option, Result}
 use Rattle.refusal.specs.declared.Refusal.{Refusal}
 use Rattle.refusal.specs.declared.Refusal.TheVariants.{UnknownFormat}
-use Rattle.formats.specs.declared.kinds.FormatName.{FormatName}
+use Rattle.formats.specs.declared.format_name.FormatName.{FormatName}
 use Rattle.formats.specs.Codes.{name_for, plain_rows}
 use Rattle.listing.specs.declared.facts.Facts.{Facts}
 use Rattle.dds.specs.declared.header.Header.{Header}

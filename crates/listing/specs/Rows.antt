@@ -3,7 +3,7 @@ use Rattle.std.specs.Prelude.{◌≡◌, ℕ, Ok, Err, Result, slice_index_or}
 use Rattle.refusal.specs.declared.Refusal.{Refusal}
 use Rattle.dds.specs.declared.layout.Layout.{Layout}
 use Rattle.dds.specs.declared.piece.Piece.{Piece}
-use Rattle.listing.specs.declared.row.Owner.{Owner}
+use Rattle.listing.specs.declared.owner.Owner.{Owner}
 use Rattle.listing.specs.declared.row.Row.{Row}
 use Rattle.dds.specs.Places.{WhereIs, WhoseIs}
 use Rattle.dds.specs.Tables.{blank}

@@ -5,7 +5,7 @@ use Rattle.std.specs.List.{join_with_byte}
 use Rattle.formats.specs.Texts.{name_text}
 use Rattle.dds.specs.Texts.{source_text, shape_text, piece_text}
 use Rattle.listing.specs.declared.facts.Facts.{Facts}
-use Rattle.listing.specs.declared.row.Owner.{Owner}
+use Rattle.listing.specs.declared.owner.Owner.{Owner}
 use Rattle.listing.specs.declared.row.Row.{Row}
 
 -- source and format, shape, sides of the first level, levels

@@ -2,6 +2,7 @@
 #![tactic(auto)]
 
 mod facts;
+mod owner;
 mod row;
 #[cfg(test)]
 mod tests;
@@ -9,4 +10,5 @@ mod text;
 
 pub use dds::{FormatSource, PixelKind};
 pub use facts::Facts;
-pub use row::{Owner, Row};
+pub use owner::Owner;
+pub use row::Row;

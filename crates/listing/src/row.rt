@@ -1,6 +1,6 @@
 // What is told of a piece, and of a byte.
 ghost use Rattle.std.specs.Prelude.{◌≡◌};
-ghost use Rattle.listing.specs.Rows.{RowOf, OwnerAt};
+ghost use Rattle.listing.specs.Rows.{RowOf};
 ghost use Rattle.listing.specs.Texts.{heading_text};
 
 use dds::{Area, Layout, Piece};
@@ -39,19 +39,5 @@ impl Row {
             height: level.height,
             area,
         })
-    }
-}
-
-/// Whose byte stands at a place, as a layout answers it: a piece's, at an offset in it, or nobody's, as those of the header. It is a
-/// type of its own since an Option has no text.
-#[derive(Clone, Copy, PartialEq, Eq, Debug)]
-pub struct Owner(pub Option<(Piece, u32)>);
-
-impl Owner {
-    /// Whose byte stands at a place, which is counted in bytes from the file's first. Refuses with PastFileEnd.
-    pub fn at(layout: &Layout, place: u64) -> Result<Owner, Refusal>
-        ensures { OwnerAt layout.now place result }
-    {
-        Ok(Owner(layout.piece_at(place)?))
     }
 }

@@ -3,7 +3,8 @@ ghost use Rattle.std.specs.Prelude.{Some};
 ghost use Rattle.listing.specs.Texts.{facts_text, row_text, owner_text};
 
 use crate::facts::Facts;
-use crate::row::{Owner, Row};
+use crate::owner::Owner;
+use crate::row::Row;
 use dds::{Area, Piece};
 use std::fmt;
 

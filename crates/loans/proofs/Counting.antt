@@ -3,7 +3,7 @@ use Rattle.std.proofs.Common.{◌≡◌, ℕ, ◌<◌, ◌≤◌, length, get_or
 use Rattle.std.proofs.lemmas.List.{get_or-take}
 use Rattle.dds.specs.declared.layout.Layout.{Layout}
 use Rattle.loans.specs.declared.ledger.Ledger.{Ledger}
-use Rattle.loans.specs.declared.ledger.Loan.{Loan}
+use Rattle.loans.specs.declared.loan.Loan.{Loan}
 use Rattle.loans.specs.Books.{Balanced, InOrder, LiesWithin, NumbersRise, outs, no_loan}
 use Rattle.loans.specs.Jobs.{Book, book_in, Orderly}
 

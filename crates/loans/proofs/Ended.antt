@@ -3,11 +3,11 @@ use Rattle.std.proofs.Common.{◌≡◌, ℕ, suc, ◌+◌, ◌-◌, ◌*◌, �
 use Rattle.std.proofs.lemmas.List.{get_or-take, get_or-drop, get_or_append_left, get_or-append_right}
 use Rattle.std.proofs.lemmas.Bool.{cases_lt, cond-false, eqb-true, eqb-false, eq-eqb, ne_eqb, and_parts}
 use Rattle.shelf.proofs.Runs.{slid_front}
-use Rattle.loans.specs.declared.ending.Ending.{Ending}
-use Rattle.loans.specs.declared.ending.Ending.TheVariants.{Kept, Cancelled}
+use Rattle.loans.specs.declared.outcome.Ending.{Ending}
+use Rattle.loans.specs.declared.outcome.Ending.TheVariants.{Kept, Cancelled}
 use Rattle.dds.specs.declared.layout.Layout.{Layout}
 use Rattle.loans.specs.declared.ledger.Ledger.{Ledger}
-use Rattle.loans.specs.declared.ledger.Loan.{Loan}
+use Rattle.loans.specs.declared.loan.Loan.{Loan}
 use Rattle.loans.specs.declared.mark.Mark.{Mark}
 use Rattle.loans.specs.Lists.{less_all}
 use Rattle.loans.specs.Books.{InOrder, Balanced, Inside, NumbersGiven, NumbersRise, outs, no_loan}

@@ -1,9 +1,9 @@
 -- What a keep and a cancel that are carried out leave.
 use Rattle.std.proofs.Common.{◌≡◌, ℕ, ◌+◌, ◌++◌, true, not, List, map, length, take, drop, sym, ap, ◌∙◌}
 use Rattle.std.proofs.lemmas.Bool.{cond-false, not_from_true, eq-eqb}
-use Rattle.loans.specs.declared.ending.Ending.{Ending}
-use Rattle.loans.specs.declared.ending.Ending.TheVariants.{Kept, Cancelled}
-use Rattle.loans.specs.declared.ledger.Loan.{Loan}
+use Rattle.loans.specs.declared.outcome.Ending.{Ending}
+use Rattle.loans.specs.declared.outcome.Ending.TheVariants.{Kept, Cancelled}
+use Rattle.loans.specs.declared.loan.Loan.{Loan}
 use Rattle.loans.specs.Lists.{less_all}
 use Rattle.loans.specs.Jobs.{Book, Orderly}
 use Rattle.loans.specs.Stocks.{Stock, is_number, is_out, are_ours}

@@ -10,7 +10,7 @@ use Rattle.dds.specs.declared.area.Area.{Area}
 use Rattle.dds.specs.declared.piece.Piece.{Piece}
 use Rattle.dds.specs.declared.table.Table.{Table}
 use Rattle.dds.specs.Places.{area_in, exists_in}
-use Rattle.loans.specs.declared.ledger.Loan.{Loan}
+use Rattle.loans.specs.declared.loan.Loan.{Loan}
 use Rattle.loans.specs.Lists.{less_first, less_all}
 use Rattle.loans.specs.Books.{no_loan}
 use Rattle.loans.specs.Lending.{granting, piece_is_out}

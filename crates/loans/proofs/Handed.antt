@@ -5,7 +5,7 @@ use Rattle.std.proofs.lemmas.List.Elements.{All-from_get_or}
 use Rattle.std.proofs.lemmas.Bool.{true≢false, false≢true, not-false, eqb-true, eq-eqb, ne_eqb}
 use Rattle.refusal.specs.declared.Refusal.{Refusal}
 use Rattle.refusal.specs.declared.Refusal.TheVariants.{OtherLength, LoanNotOut}
-use Rattle.loans.specs.declared.ledger.Loan.{Loan}
+use Rattle.loans.specs.declared.loan.Loan.{Loan}
 use Rattle.loans.specs.declared.mark.Mark.{Mark}
 use Rattle.loans.specs.Lists.{less_all}
 use Rattle.loans.specs.Books.{no_loan}

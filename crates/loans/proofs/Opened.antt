@@ -1,7 +1,7 @@
 -- A job just opened on a file.
 use Rattle.std.proofs.Common.{◌≡◌, ℕ, List, [], length, Some, None, Option, Ok, Err, Result, sym, ap, ◌∙◌}
 use Rattle.refusal.specs.declared.Refusal.{Refusal}
-use Rattle.formats.specs.declared.kinds.FormatName.{FormatName}
+use Rattle.formats.specs.declared.format_name.FormatName.{FormatName}
 use Rattle.dds.specs.declared.header.Header.{Header}
 use Rattle.dds.specs.declared.layout.Layout.{Layout}
 use Rattle.dds.specs.declared.source.FormatSource.{FormatSource}

@@ -6,7 +6,7 @@ use Rattle.std.specs.List.{list_any, flat_map, All}
 use Rattle.std.proofs.lemmas.List.{reverse-append, length-append, take_at, drop_at, map_push, flat_map_more}
 use Rattle.std.proofs.lemmas.List.Elements.{All-head, All-tail, All-weaker, All-filter, filter_passes, filter-append}
 use Rattle.std.proofs.lemmas.Bool.{and_right, cond-true, cond-false}
-use Rattle.loans.specs.declared.ledger.Loan.{Loan}
+use Rattle.loans.specs.declared.loan.Loan.{Loan}
 use Rattle.loans.specs.declared.mark.Mark.{Mark}
 use Rattle.loans.specs.Lists.{less_first, less_all}
 use Rattle.loans.specs.Stocks.{is_out, of_loan, marks_of, lengths}

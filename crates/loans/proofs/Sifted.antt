@@ -7,7 +7,7 @@ use Rattle.std.specs.List.{list_any}
 use Rattle.shelf.specs.Runs.{slid_down}
 use Rattle.shelf.proofs.Runs.{slid_front, slid_behind}
 use Rattle.loans.specs.declared.mark.Mark.{Mark}
-use Rattle.loans.specs.declared.sifting.Amount.{Amount}
+use Rattle.loans.specs.declared.amount.Amount.{Amount}
 use Rattle.loans.specs.Lists.{less_all}
 use Rattle.loans.specs.Stocks.{Stock, of_loan, lengths}
 use Rattle.loans.specs.Taking.{no_mark}

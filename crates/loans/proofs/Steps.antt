@@ -10,7 +10,7 @@ use Rattle.dds.specs.declared.piece.Piece.{Piece}
 use Rattle.dds.specs.declared.layout.Layout.{Layout}
 use Rattle.dds.specs.declared.table.Table.{Table}
 use Rattle.dds.specs.Places.{exists_in, area_in}
-use Rattle.loans.specs.declared.ledger.Loan.{Loan}
+use Rattle.loans.specs.declared.loan.Loan.{Loan}
 use Rattle.loans.specs.declared.mark.Mark.{Mark}
 use Rattle.loans.specs.Lists.{less_first, less_all}
 use Rattle.loans.specs.Jobs.{Book}

@@ -2,7 +2,7 @@
 use Rattle.std.specs.Prelude.{◌≡◌, ℕ, List, Some, None, Ok, Err, Result}
 use Rattle.refusal.specs.declared.Refusal.{Refusal}
 use Rattle.loans.specs.declared.job.Job.{Job}
-use Rattle.loans.specs.declared.mark.Shelves.{Shelves}
+use Rattle.loans.specs.declared.shelves.Shelves.{Shelves}
 use Rattle.loans.specs.Strokes.{State, state_of}
 use Rattle.loans.specs.Rules.{Deed, call_refusal, carried_out, number_for}
 

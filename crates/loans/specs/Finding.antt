@@ -1,6 +1,6 @@
 -- Where among the loans the loan of a number stands.
 use Rattle.std.specs.Prelude.{◌≡◌, ℕ, ◌<◌, true, false, List, length, slice_index_or, Some, None, Option}
-use Rattle.loans.specs.declared.ledger.Loan.{Loan}
+use Rattle.loans.specs.declared.loan.Loan.{Loan}
 use Rattle.loans.specs.Books.{no_loan}
 use Rattle.loans.specs.Stocks.{is_out, the_loan}
 

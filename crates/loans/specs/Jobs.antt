@@ -3,8 +3,8 @@ use Rattle.std.specs.Prelude.{◌≡◌, ℕ, ◌+◌, ◌<◌, ◌≤◌, List,
 use Rattle.dds.specs.declared.layout.Layout.{Layout}
 use Rattle.dds.specs.Sound.{empty_table}
 use Rattle.loans.specs.declared.ledger.Ledger.{Ledger}
-use Rattle.loans.specs.declared.ledger.Loan.{Loan}
-use Rattle.loans.specs.declared.ledger.Report.{Report}
+use Rattle.loans.specs.declared.loan.Loan.{Loan}
+use Rattle.loans.specs.declared.report.Report.{Report}
 use Rattle.loans.specs.Books.{outs, no_loan, LiesWithin, NumbersRise}
 
 -- the layout of the file, the number of the job, the loans out in the order in which they were granted, how many were granted,

@@ -6,7 +6,7 @@ use Rattle.refusal.specs.declared.Refusal.TheVariants.{NoSuchPiece, PieceOut, To
 use Rattle.dds.specs.declared.area.Area.{Area}
 use Rattle.dds.specs.declared.piece.Piece.{Piece}
 use Rattle.dds.specs.Places.{exists_in, area_in}
-use Rattle.loans.specs.declared.ledger.Loan.{Loan}
+use Rattle.loans.specs.declared.loan.Loan.{Loan}
 use Rattle.loans.specs.Jobs.{Book}
 
 -- two pieces are the same where element, level and slice are

@@ -1,7 +1,7 @@
 -- What opening a job answers and leaves.
 use Rattle.std.specs.Prelude.{◌≡◌, ℕ, List, Some, Ok, Err, Option, Result}
 use Rattle.refusal.specs.declared.Refusal.{Refusal}
-use Rattle.formats.specs.declared.kinds.FormatName.{FormatName}
+use Rattle.formats.specs.declared.format_name.FormatName.{FormatName}
 use Rattle.dds.specs.declared.layout.Layout.{Layout}
 use Rattle.dds.specs.declared.source.FormatSource.TheVariants.{HandedIn}
 use Rattle.dds.specs.Readings.{reading_of}

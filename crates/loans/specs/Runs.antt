@@ -8,9 +8,9 @@ use Rattle.dds.specs.Readings.{reading_of}
 use Rattle.dds.specs.Layouts.{Opened}
 use Rattle.loans.specs.declared.docket.Docket.{Docket}
 use Rattle.loans.specs.declared.job.Job.{Job}
-use Rattle.loans.specs.declared.mark.Shelves.{Shelves}
-use Rattle.loans.specs.declared.running.RunFault.{RunFault}
-use Rattle.loans.specs.declared.running.RunFault.TheVariants.{Refused, NoRoom}
+use Rattle.loans.specs.declared.shelves.Shelves.{Shelves}
+use Rattle.loans.specs.declared.run_fault.RunFault.{RunFault}
+use Rattle.loans.specs.declared.run_fault.RunFault.TheVariants.{Refused, NoRoom}
 use Rattle.loans.specs.Jobs.{fresh_book}
 use Rattle.loans.specs.Stocks.{Stock, SameRoom, are_ours}
 use Rattle.loans.specs.Strokes.{State, state_of}

@@ -3,8 +3,8 @@ use Rattle.std.specs.Prelude.{◌≡◌, ℕ, true, List, length, Some, None, Ok
 use Rattle.refusal.specs.declared.Refusal.{Refusal}
 use Rattle.loans.specs.declared.docket.Docket.{Docket}
 use Rattle.loans.specs.declared.job.Job.{Job}
-use Rattle.loans.specs.declared.ledger.Report.{Report}
-use Rattle.loans.specs.declared.mark.Shelves.{Shelves}
+use Rattle.loans.specs.declared.report.Report.{Report}
+use Rattle.loans.specs.declared.shelves.Shelves.{Shelves}
 use Rattle.loans.specs.Jobs.{IsEmpty, report_of}
 use Rattle.loans.specs.Stocks.{are_ours}
 use Rattle.loans.specs.Strokes.{State, state_of}

@@ -4,8 +4,8 @@ use Rattle.refusal.specs.declared.Refusal.{Refusal}
 use Rattle.refusal.specs.declared.Refusal.TheVariants.{OtherDocket, LoansOut}
 use Rattle.loans.specs.declared.docket.Docket.{Docket}
 use Rattle.loans.specs.declared.job.Job.{Job}
-use Rattle.loans.specs.declared.ledger.Report.{Report}
-use Rattle.loans.specs.declared.shipping.Unspent.{Unspent}
+use Rattle.loans.specs.declared.report.Report.{Report}
+use Rattle.loans.specs.declared.unspent.Unspent.{Unspent}
 use Rattle.loans.specs.Jobs.{Book, IsEmpty, report_of}
 
 -- the job has that number; an empty job has none

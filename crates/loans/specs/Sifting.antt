@@ -3,7 +3,7 @@ use Rattle.std.specs.Prelude.{◌≡◌, ℕ, ◌+◌, ◌<◌, ◌≤◌, true,
 use Rattle.std.specs.List.{list_any}
 use Rattle.shelf.specs.Runs.{slid_down}
 use Rattle.loans.specs.declared.mark.Mark.{Mark}
-use Rattle.loans.specs.declared.sifting.Amount.{Amount}
+use Rattle.loans.specs.declared.amount.Amount.{Amount}
 use Rattle.loans.specs.Stocks.{Stock, of_loan, lengths}
 use Rattle.loans.specs.Taking.{no_mark}
 

@@ -4,7 +4,7 @@ use Rattle.std.specs.List.{list_any, list_all, find}
 use Rattle.std.specs.Option.{unwrap_or}
 use Rattle.shelf.specs.Held.{Held}
 use Rattle.dds.specs.declared.area.Area.{Area}
-use Rattle.loans.specs.declared.ledger.Loan.{Loan}
+use Rattle.loans.specs.declared.loan.Loan.{Loan}
 use Rattle.loans.specs.declared.mark.Mark.{Mark}
 use Rattle.loans.specs.Books.{no_loan}
 use Rattle.loans.specs.Jobs.{Book}

@@ -5,12 +5,12 @@ use Rattle.std.proofs.Math.Seq.{paste}
 use Rattle.refusal.specs.declared.Refusal.{Refusal}
 use Rattle.refusal.specs.declared.Refusal.TheVariants.{OtherLength, LoanNotOut, OtherBorrower, ForeignShelves, OutsideRow, NoSpace, NothingToUndo}
 use Rattle.dds.specs.declared.area.Area.{Area}
-use Rattle.loans.specs.declared.call.Painting as Call
-use Rattle.loans.specs.declared.ledger.Loan.{Loan}
+use Rattle.loans.specs.declared.painting.Painting as Call
+use Rattle.loans.specs.declared.loan.Loan.{Loan}
 use Rattle.loans.specs.declared.mark.Mark.{Mark}
 use Rattle.loans.specs.Books.{no_loan, loan_with}
 use Rattle.loans.specs.Jobs.{Book, Orderly}
-use Rattle.loans.specs.declared.painting.Spot.{Spot}
+use Rattle.loans.specs.declared.target.Spot.{Spot}
 use Rattle.loans.specs.Finding.{StandsAt}
 use Rattle.loans.specs.Stocks.{Stock, is_out, the_loan, of_loan, marks_of, are_ours}
 

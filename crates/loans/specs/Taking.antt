@@ -5,8 +5,8 @@ use Rattle.std.proofs.Math.Seq.{paste}
 use Rattle.refusal.specs.declared.Refusal.{Refusal}
 use Rattle.shelf.specs.Runs.{without_run}
 use Rattle.loans.specs.declared.mark.Mark.{Mark}
-use Rattle.loans.specs.declared.undoing.Newest.{Newest}
-use Rattle.loans.specs.declared.undoing.Last.{Last}
+use Rattle.loans.specs.declared.newest.Newest.{Newest}
+use Rattle.loans.specs.declared.last.Last.{Last}
 use Rattle.loans.specs.Books.{no_loan}
 use Rattle.loans.specs.Stocks.{Stock, of_loan, marks_of, lengths}
 use Rattle.loans.specs.Finding.{StandsAt}

@@ -3,8 +3,8 @@ use Rattle.std.specs.Prelude.{ℕ, ◌+◌, ◌-◌, ◌++◌, length, take, dro
 use Rattle.dds.specs.declared.area.Area.{Area}
 use Rattle.dds.specs.declared.piece.Piece.{Piece}
 use Rattle.shelf.specs.Runs.{slid_down}
-use Rattle.loans.specs.declared.ending.Ending.{Ending}
-use Rattle.loans.specs.declared.ending.Ending.TheVariants.{Kept, Cancelled}
+use Rattle.loans.specs.declared.outcome.Ending.{Ending}
+use Rattle.loans.specs.declared.outcome.Ending.TheVariants.{Kept, Cancelled}
 use Rattle.loans.specs.declared.ledger.Ledger.{Ledger}
 use Rattle.loans.specs.Books.{no_loan, loan_with}
 use Rattle.loans.specs.Jobs.{Book}

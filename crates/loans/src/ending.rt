@@ -10,16 +10,11 @@ ghost use Rattle.loans.specs.Handed.{HandedWhere};
 
 use crate::job::Job;
 use crate::ledger::Ledger;
-use crate::mark::{Mark, Shelves};
+use crate::mark::Mark;
+use crate::outcome::Ending;
 use crate::painting::lay;
+use crate::shelves::Shelves;
 use refusal::Refusal;
-
-// How a loan ends.
-#[derive(Clone, Copy)]
-pub(crate) enum Ending {
-    Kept,
-    Cancelled,
-}
 
 // Puts back all that a loan's strokes covered, the newest first.
 fn restore(file: &mut [u8], marks: &[Mark], covered: &[u8], loan: u32)

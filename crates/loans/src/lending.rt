@@ -7,7 +7,8 @@ ghost use Rattle.loans.specs.Rules.Deed.{lend};
 ghost use Rattle.loans.specs.Calls.{CalledAlone};
 
 use crate::job::Job;
-use crate::ledger::{Ledger, Loan};
+use crate::ledger::Ledger;
+use crate::loan::Loan;
 use dds::{Area, Piece};
 use refusal::Refusal;
 

@@ -6,7 +6,9 @@ ghost use Rattle.loans.specs.Opening.{OpenedWith, OpenedWithCodes};
 
 use crate::docket::Docket;
 use crate::job::Job;
-use crate::ledger::{Ledger, Loan, Report};
+use crate::ledger::Ledger;
+use crate::loan::Loan;
+use crate::report::Report;
 use dds::{Area, FileHead, Layout, Piece};
 use formats::{CodeTable, Family};
 use refusal::Refusal;

@@ -10,19 +10,28 @@ ghost use Rattle.loans.specs.Stocks.{Fits, OursWhere};
 ghost use Rattle.loans.specs.Finding.{Found};
 ghost use Rattle.loans.specs.Strokes.{state_of, Held, stock_with, painting_of, is_outside_row, lacks_space, PaintTested};
 
-use crate::call::Painting;
 use crate::job::Job;
-use crate::ledger::Loan;
-use crate::mark::{Mark, Shelves};
+use crate::loan::Loan;
+use crate::mark::Mark;
 use crate::searching::position_of;
+use crate::shelves::Shelves;
+use crate::target::Spot;
 use dds::Area;
 use refusal::Refusal;
 
-// Where a stroke is to lie: the position of its loan among the loans out, and its place in the file.
-#[derive(Clone, Copy)]
-pub(crate) struct Spot {
-    pub(crate) position: usize,
-    pub(crate) place: usize,
+/// What a paint names.
+#[derive(Clone, Copy, PartialEq, Eq, Debug)]
+pub struct Painting<'a> {
+    /// the loan's number
+    pub loan: u32,
+    /// who paints
+    pub borrower: u32,
+    /// the row of the loan's piece, from 0 on
+    pub row: u32,
+    /// the row's byte where the stroke begins, from 0 on
+    pub first: u32,
+    /// the bytes to lay, at least one
+    pub bytes: &'a [u8],
 }
 
 // No bytes, no such row, or past the row's end. Ends are compared by differences, since a sum could wrap.

@@ -1,52 +1,20 @@
 // Running a list of calls on a newly opened job.
 ghost use Rattle.std.specs.Prelude.{◌≡◌, Some, ◌+◌, ◌≤◌, IfOk, map, length, vec_len, vec_capacity};
-ghost use Rattle.loans.specs.declared.running.RunFault.TheVariants.{Refused};
 ghost use Rattle.loans.specs.Stocks.{SameRoom, answer_limit, OursWhere};
 ghost use Rattle.loans.specs.Strokes.{state_of};
 ghost use Rattle.loans.specs.Rules.{deed_of};
 ghost use Rattle.loans.specs.Calls.{Called};
 ghost use Rattle.loans.specs.Handed.{HandedBy};
-ghost use Rattle.loans.specs.Runs.{AllDone, fault_text, OursAlong, is_empty, Ran};
+ghost use Rattle.loans.specs.Runs.{AllDone, OursAlong, is_empty, Ran};
 
 use crate::call::{Answer, Call};
 use crate::docket::Docket;
 use crate::job::Job;
-use crate::mark::Shelves;
+use crate::run_fault::RunFault;
+use crate::shelves::Shelves;
 use dds::{FileHead, Layout};
 use formats::Family;
 use refusal::Refusal;
-use std::error::Error;
-use std::fmt;
-
-/// Why a run was not made.
-#[derive(Clone, Copy, PartialEq, Eq, Debug)]
-pub enum RunFault {
-    /// the file was not opened
-    Refused(Refusal),
-    /// the Vec has too little room for one answer a call
-    NoRoom,
-}
-
-impl fmt::Display for RunFault {
-    ghost output = { λ fault. Some (fault_text fault) };
-
-    fn fmt<W: fmt::Write>(&self, f: &mut fmt::Formatter<W>) -> fmt::Result {
-        match self {
-            RunFault::Refused(refusal) => write!(f, "{refusal}"),
-            RunFault::NoRoom => write!(f, "no room for the answers"),
-        }
-    }
-}
-
-impl Error for RunFault {}
-
-impl From<Refusal> for RunFault {
-    ghost from_gives = { λ refusal fault. fault ≡ Refused refusal };
-
-    fn from(refusal: Refusal) -> RunFault {
-        Self::Refused(refusal)
-    }
-}
 
 impl Job {
     // Makes one call; shelves that are known to be the job's are not looked through. That is a flag and no closure, which would be called

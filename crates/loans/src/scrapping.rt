@@ -7,8 +7,8 @@ ghost use Rattle.loans.specs.Scrapping.{AtHome, Scrapped};
 
 use crate::docket::Docket;
 use crate::job::Job;
-use crate::ledger::Report;
-use crate::mark::Shelves;
+use crate::report::Report;
+use crate::shelves::Shelves;
 use refusal::Refusal;
 
 impl Job {

@@ -2,7 +2,7 @@
 ghost use Rattle.std.specs.Prelude.{◌≡◌};
 ghost use Rattle.loans.specs.Finding.{Found};
 
-use crate::ledger::Loan;
+use crate::loan::Loan;
 
 // The position of the loan with that number among the loans.
 pub(crate) fn position_of(loans: &[Loan], number: u32) -> Option<usize>

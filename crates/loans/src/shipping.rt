@@ -5,17 +5,9 @@ ghost use Rattle.loans.specs.Shipping.{is_job_number, Shipped};
 
 use crate::docket::Docket;
 use crate::job::Job;
-use crate::ledger::Report;
+use crate::report::Report;
+use crate::unspent::Unspent;
 use refusal::Refusal;
-
-/// A docket that could not be spent, and why.
-#[derive(PartialEq, Eq, Debug)]
-pub struct Unspent {
-    /// the docket that was handed in
-    pub docket: Docket,
-    /// OtherDocket or LoansOut
-    pub refusal: Refusal,
-}
 
 impl Job {
     // The job has that number; an empty job has none.

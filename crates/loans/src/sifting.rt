@@ -4,14 +4,9 @@ ghost use Rattle.loans.specs.Stocks.{Fits, lengths};
 ghost use Rattle.loans.specs.Ending.{stock_without};
 ghost use Rattle.loans.specs.Sifting.{Leads, CanSlide, stock_slid};
 
-use crate::mark::{Mark, Shelves};
-
-// So much of the two shelves: how many marks, and how many bytes that are kept of their strokes.
-#[derive(Clone, Copy)]
-pub(crate) struct Amount {
-    pub(crate) marks: usize,
-    pub(crate) bytes: usize,
-}
+use crate::amount::Amount;
+use crate::mark::Mark;
+use crate::shelves::Shelves;
 
 impl Amount {
     // Both together.

@@ -5,9 +5,10 @@ ghost use Rattle.loans.specs.Books.{NumbersRise};
 ghost use Rattle.loans.specs.Tallies.{SoundAt, Tallied, agree};
 
 use crate::job::Job;
-use crate::ledger::Loan;
-use crate::mark::{Mark, Shelves};
+use crate::loan::Loan;
+use crate::mark::Mark;
 use crate::searching::position_of;
+use crate::shelves::Shelves;
 use dds::Area;
 
 // Ends are compared by differences, since a mark's place and length could be anything and their sum could wrap.

@@ -7,23 +7,12 @@ ghost use Rattle.loans.specs.Rules.Deed.{undo};
 ghost use Rattle.loans.specs.Calls.{Called};
 
 use crate::job::Job;
-use crate::mark::{Mark, Shelves};
+use crate::last::Last;
+use crate::mark::Mark;
+use crate::newest::Newest;
 use crate::painting::lay;
+use crate::shelves::Shelves;
 use refusal::Refusal;
-
-// A loan's newest mark: its position on its shelf, and where its kept bytes begin on theirs.
-#[derive(Clone, Copy)]
-pub(crate) struct Newest {
-    pub(crate) position: usize,
-    pub(crate) begin: usize,
-}
-
-// What an undo takes back: the newest stroke of the loan at a position among the loans out.
-#[derive(Clone, Copy)]
-pub(crate) struct Last {
-    pub(crate) position: usize,
-    pub(crate) newest: Newest,
-}
 
 // The newest mark of a loan, looked for from the end.
 fn newest_of(marks: &[Mark], covered: usize, loan: u32) -> Option<Newest>

@@ -11,8 +11,8 @@ use Rattle.loans.specs.Scrapping.{AtHome}
 use Rattle.loans.proofs.Calls.{answers_to_length}
 use Rattle.loans.proofs.Runs.{law_run}
 use Rattle.loans.proofs.Opened.{opened_is, home_run}
-use Rattle.orders.specs.declared.day.Ending.{Ending}
-use Rattle.orders.specs.declared.day.Ending.TheVariants.{Refused, Shipped, Scrapped}
+use Rattle.orders.specs.declared.ending.Ending.{Ending}
+use Rattle.orders.specs.declared.ending.Ending.TheVariants.{Refused, Shipped, Scrapped}
 use Rattle.orders.specs.Lines.{lines_of}
 use Rattle.orders.specs.Days.{DayInputs, MasterOpened, morning, answer_lines, Closed, calls_in, answers_in, Worked, EndedAs}
 use Rattle.orders.specs.Steps.{LinesAnswered, Begun}

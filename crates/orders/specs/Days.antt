@@ -16,8 +16,8 @@ use Rattle.loans.specs.Law.{Law}
 use Rattle.loans.specs.Runs.{opened_state}
 use Rattle.loans.specs.Ending.{all_cancelled}
 use Rattle.orders.specs.declared.day.TheConstants.{LONGEST_MASTER, LONGEST_ORDERS}
-use Rattle.orders.specs.declared.day.Ending.{Ending}
-use Rattle.orders.specs.declared.day.Ending.TheVariants.{Refused, Shipped, Scrapped}
+use Rattle.orders.specs.declared.ending.Ending.{Ending}
+use Rattle.orders.specs.declared.ending.Ending.TheVariants.{Refused, Shipped, Scrapped}
 use Rattle.orders.specs.declared.reply.Reply.{Reply}
 use Rattle.orders.specs.declared.reply.Reply.TheVariants as replies
 use Rattle.orders.specs.Spelling.{Wording, IsOrder, spelling}

@@ -1,22 +1,22 @@
 // A day's orders, from the texture and their text to the answers and how the day ends.
-ghost use Rattle.std.specs.Prelude.{◌≡◌, ◌+◌, ◌*◌, ◌<◌, ◌≤◌, ◌++◌, ◌↔◌, Some, IsErr, OnErr, IfOk, length, codes, vec_len, vec_capacity};
+ghost use Rattle.std.specs.Prelude.{◌≡◌, ◌+◌, ◌*◌, ◌<◌, ◌≤◌, ◌++◌, ◌↔◌, Some, IsErr, OnErr, IfOk, length, vec_len, vec_capacity};
 ghost use Rattle.loans.specs.Stocks.{SameRoom, answer_limit};
 ghost use Rattle.loans.specs.Strokes.{state_of};
 ghost use Rattle.loans.specs.Scrapping.{AtHome};
 ghost use Rattle.orders.specs.Lines.{lines_of};
-ghost use Rattle.orders.specs.Replies.{reply_text, reply_to};
+ghost use Rattle.orders.specs.Replies.{reply_text};
 ghost use Rattle.orders.specs.Days.{closing_reply, Closed, room_for, EndedAs, DayDone};
 ghost use Rattle.orders.specs.Steps.{LineAnswered, LinesAnswered, Begun};
 
+use crate::ending::Ending;
 use crate::lines::Lines;
+use crate::no_room::NoRoom;
 use crate::order::Order;
 use crate::reply::Reply;
 use formats::BuiltInCodes;
 use loans::{Answer, Docket, Job, Mark, Shelves, Unspent, scrap, ship};
 use refusal::Refusal;
 use shelf::Shelf;
-use std::error::Error;
-use std::fmt;
 
 /// How many bytes a day's texture can have.
 pub const LONGEST_MASTER: usize = 32768;
@@ -34,31 +34,6 @@ const MOST_KEPT: usize = 4096;
 // How many bytes are printed for a byte of the orders at most: for an empty line, which is one byte, `no 26` and its end. A line that is
 // answered with a number has more bytes than one, and its answer at most nine, since loan numbers end at 65,535.
 const PRINTED_FOR_A_BYTE: usize = 6;
-
-/// How a day ends: the texture or the orders are refused, or all loans were handed in and the texture ships, or it does not.
-#[derive(Clone, Copy, PartialEq, Eq, Debug)]
-pub enum Ending {
-    /// nothing was done: an input is over its limit, or the texture is not opened
-    Refused(Refusal),
-    /// all loans were handed in, and the texture ships
-    Shipped,
-    /// a loan was out, and all of its strokes are taken back
-    Scrapped,
-}
-
-/// There is not so much room for the answers as `room_for` tells.
-#[derive(Clone, Copy, PartialEq, Eq, Debug)]
-pub struct NoRoom;
-
-impl fmt::Display for NoRoom {
-    ghost output = { λ _. Some (codes "no room for the answers") };
-
-    fn fmt<W: fmt::Write>(&self, f: &mut fmt::Formatter<W>) -> fmt::Result {
-        write!(f, "no room for the answers")
-    }
-}
-
-impl Error for NoRoom {}
 
 /// The last line of a day.
 impl From<Ending> for Reply {

@@ -13,7 +13,7 @@ use Rattle.dds.specs.declared.piece.Piece.{Piece}
 use Rattle.dds.specs.declared.table.Table.{Table}
 use Rattle.dds.specs.Places.{exists_in, area_in, AreaOf}
 use Rattle.loans.specs.declared.call.Call.{Call}
-use Rattle.loans.specs.declared.ledger.Loan.{Loan}
+use Rattle.loans.specs.declared.loan.Loan.{Loan}
 use Rattle.painters.specs.declared.Painter.{Painter}
 use Rattle.loans.specs.Lists.{less_first, less_all}
 use Rattle.loans.specs.Books.{no_loan}

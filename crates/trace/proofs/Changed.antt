@@ -3,7 +3,7 @@ use Rattle.std.proofs.Common.{◌≡◌, ◌≢◌, ℕ, zero, suc, ◌+◌, ◌
 use Rattle.std.specs.Prelude.{nat_eq, slice_get}
 use Rattle.std.specs.Option.{option_eq}
 use Rattle.std.proofs.lemmas.Bool.{true≢false, cases_lt, cases_Bool, eqb-true, eq-eqb, not-true}
-use Rattle.trace.specs.declared.changes.Change.{Change}
+use Rattle.trace.specs.declared.change.Change.{Change}
 use Rattle.trace.specs.Changes.{is_changed, AreChanges, runs_of}
 use Rattle.trace.proofs.Runs.{runs_are, runs_cover, runs_pass, runs_filled, runs_apart_all, runs_total}
 

@@ -4,7 +4,7 @@ use Rattle.std.specs.List.{Any, AllPairs, All, find, range_with_len, sum_by, cou
 use Rattle.std.specs.Option.{option_map, unwrap_or}
 use Rattle.std.proofs.lemmas.Bool.{true≢false, cases_lt, cases_eq, eqb-true, eq-eqb, ne_eqb, cond-true, cond-false, eqb-false, not-true, not-false}
 use Rattle.std.proofs.lemmas.List.Sums.{sum_by-cons}
-use Rattle.trace.specs.declared.changes.Change.{Change}
+use Rattle.trace.specs.declared.change.Change.{Change}
 use Rattle.trace.specs.Changes.{Spans, led_by, runs_of, IsFirstRun}
 
 abbrev pub run_at : ℕ → ℕ → Change

@@ -2,7 +2,7 @@
 use Rattle.std.specs.Prelude.{◌≡◌, ◌≢◌, ◌↔◌, ℕ, zero, suc, ◌+◌, ◌-◌, ◌<◌, ◌≤◌, max, Bool, not, cond, List, [], ◌∷◌, length, nat_eq, ◌==◌, slice_get, Some, None, Option}
 use Rattle.std.specs.List.{All, Any, AllPairs, sum_by, count_by, range_with_len}
 use Rattle.std.specs.Option.{option_eq}
-use Rattle.trace.specs.declared.changes.Change.{Change}
+use Rattle.trace.specs.declared.change.Change.{Change}
 use Rattle.trace.specs.declared.changes.Changes.{Changes}
 
 -- whether the byte at a place differs, or only one file has one

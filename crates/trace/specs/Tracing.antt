@@ -7,7 +7,7 @@ use Rattle.loans.specs.declared.call.Call.{Call}
 use Rattle.loans.specs.declared.job.Job.{Job}
 use Rattle.loans.specs.Rules.{deed_of}
 use Rattle.painters.specs.Tracing.{Traced, IsNewest}
-use Rattle.trace.specs.declared.changes.Change.{Change}
+use Rattle.trace.specs.declared.change.Change.{Change}
 use Rattle.trace.specs.declared.traced.TracedChange.{TracedChange}
 
 -- a change with its first byte's owner and painter

@@ -3,14 +3,7 @@ ghost use Rattle.std.specs.Prelude.{◌≡◌, length, max};
 ghost use Rattle.std.specs.Iterator.{YieldsFirst, item_count};
 ghost use Rattle.trace.specs.Changes.{is_changed, AreChanges, IsFirstRun, changes_left, changed_count};
 
-/// A run of bytes that changed: the place of its first byte, and how many bytes it has.
-#[derive(Clone, Copy, PartialEq, Eq, Debug)]
-pub struct Change {
-    /// The place of the first byte.
-    pub place: usize,
-    /// How many bytes.
-    pub length: usize,
-}
+use crate::change::Change;
 
 /// The runs of bytes in which two files differ, one after the other, each as long as it can be. Where one file is longer, the bytes
 /// that only it has count as changed.

@@ -3,7 +3,7 @@ ghost use Rattle.std.specs.Prelude.{◌≡◌, Some};
 ghost use Rattle.loans.specs.Rules.{deed_of};
 ghost use Rattle.trace.specs.Texts.{call_text, answer_text, counted_by, owned_text, painted_text, change_text};
 
-use crate::changes::Change;
+use crate::change::Change;
 use crate::traced::TracedChange;
 use dds::Piece;
 use loans::{Answer, Call};

@@ -1,7 +1,7 @@
 // Whose the changed bytes are, and who painted them.
 ghost use Rattle.trace.specs.Tracing.{ChangeTraced, LastPiece};
 
-use crate::changes::Change;
+use crate::change::Change;
 use dds::Piece;
 use loans::{Answer, Call, Job};
 use painters::{Painter, painter_of};

@@ -1,6 +1,6 @@
 use Rattle.std.proofs.Common.{◌≡◌, ℕ, ◌<◌, suc, length, ap, ◌∙◌, add-one, arith}
 use Rattle.formats.specs.Extents.{extent_of}
-use Rattle.dds.specs.declared.table.Sides.{Sides}
+use Rattle.dds.specs.declared.sides.Sides.{Sides}
 use Rattle.dds.specs.Levels.{side_at}
 use Rattle.dds.specs.Plans.{size_at, begin_at}
 use Rattle.dds.specs.LevelEnds.{level_end}

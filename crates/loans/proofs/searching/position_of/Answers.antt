@@ -1,7 +1,7 @@
 use Rattle.std.proofs.Common.{eqb, rules, tests}
 use Rattle.std.proofs.lemmas.Iterator.{YieldsList-from_slice}
 use Rattle.std.proofs.lemmas.Iterator.Search.{position_from_yields_List}
-use Rattle.loans.specs.declared.ledger.Loan.{Loan}
+use Rattle.loans.specs.declared.loan.Loan.{Loan}
 use Rattle.loans.proofs.Slots.{found_at}
 use Rattle.loans.proofs.searching.position_of.Goals as goal
 

@@ -1,7 +1,7 @@
 use Rattle.std.proofs.Common.{ℕ, eqb, ◌∙◌, rules, tests}
 use Rattle.std.proofs.lemmas.Iterator.{YieldsList-from_slice, YieldsList-from_zip}
 use Rattle.std.proofs.lemmas.Iterator.Search.{all_from_yields_List}
-use Rattle.loans.specs.declared.ledger.Loan.{Loan}
+use Rattle.loans.specs.declared.loan.Loan.{Loan}
 use Rattle.loans.proofs.Tallying.{agree_all}
 use Rattle.loans.proofs.testing.counts_agree.Goals as goal
 

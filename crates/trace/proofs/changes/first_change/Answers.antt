@@ -1,7 +1,7 @@
 use Rattle.std.proofs.Common.{◌≡◌, ◌-◌, ◌+◌, ℕ, not, refl, sym, subst, arith, rules, tests, Option, None, length, max}
 use Rattle.std.proofs.lemmas.Iterator.{YieldsList-from_range}
 use Rattle.std.proofs.lemmas.Iterator.Search.{find_from_yields_List}
-use Rattle.trace.specs.declared.changes.Change.{Change}
+use Rattle.trace.specs.declared.change.Change.{Change}
 use Rattle.trace.specs.Changes.{is_changed, IsFirstRun}
 use Rattle.trace.proofs.Runs.{Found, found, none_left, Run, run_found, first_run}
 use Rattle.trace.proofs.changes.first_change.Goals as goal

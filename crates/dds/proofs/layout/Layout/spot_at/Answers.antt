@@ -1,6 +1,6 @@
 use Rattle.std.proofs.Common.{◌+◌, ◌-◌, ◌/◌, ◌%◌, ◌<◌, ◌≤◌, get_or, sym, subst}
 use Rattle.dds.specs.declared.layout.Layout.{Layout}
-use Rattle.dds.specs.declared.places.Spot.{Spot}
+use Rattle.dds.specs.declared.spot.Spot.{Spot}
 use Rattle.dds.specs.Spots.{SpotOf}
 use Rattle.dds.specs.Tables.{blank}
 use Rattle.dds.proofs.Spotting.{spotted}

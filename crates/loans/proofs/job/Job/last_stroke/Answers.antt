@@ -1,6 +1,6 @@
 use Rattle.std.proofs.Common.{List, Option, ◌∙◌, subst₂}
 use Rattle.loans.specs.declared.mark.Mark.{Mark}
-use Rattle.loans.specs.declared.undoing.Newest.{Newest}
+use Rattle.loans.specs.declared.newest.Newest.{Newest}
 use Rattle.loans.specs.Taking.{FoundNewest}
 use Rattle.loans.proofs.Undone.{undo_at}
 use Rattle.loans.proofs.job.Job.last_stroke.Goals as goal

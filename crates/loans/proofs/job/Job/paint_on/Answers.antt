@@ -1,5 +1,5 @@
 use Rattle.std.proofs.Common.{ap}
-use Rattle.loans.specs.declared.ledger.Loan.{Loan}
+use Rattle.loans.specs.declared.loan.Loan.{Loan}
 use Rattle.loans.specs.Strokes.{painting_of}
 use Rattle.loans.proofs.Painted.{paint_carried}
 use Rattle.loans.proofs.job.Job.paint_on.Goals as goal

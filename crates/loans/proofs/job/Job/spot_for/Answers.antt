@@ -1,6 +1,6 @@
 use Rattle.std.proofs.Common.{◌≡◌, sym, ap, ◌∙◌}
 use Rattle.std.proofs.lemmas.Bool.{cond-false}
-use Rattle.loans.specs.declared.ledger.Loan.{Loan}
+use Rattle.loans.specs.declared.loan.Loan.{Loan}
 use Rattle.loans.specs.Stocks.{the_loan}
 use Rattle.loans.specs.Strokes.{painting_of, is_outside_row, stroke_place}
 use Rattle.loans.proofs.Painted.{paint_at}

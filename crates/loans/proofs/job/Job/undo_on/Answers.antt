@@ -1,5 +1,5 @@
 use Rattle.std.proofs.Common.{ap}
-use Rattle.loans.specs.declared.ledger.Loan.{Loan}
+use Rattle.loans.specs.declared.loan.Loan.{Loan}
 use Rattle.loans.proofs.Undone.{undo_carried}
 use Rattle.loans.proofs.job.Job.undo_on.Goals as goal
 

@@ -2,7 +2,7 @@ use Rattle.std.proofs.Common.{◌≤◌, ap, length, sym, subst, arith, rules}
 use Rattle.std.proofs.lemmas.List.{length-drop}
 use Rattle.loans.specs.Stocks.{Stock}
 use Rattle.loans.proofs.Sifted.{Sifted, lengths_from, next_slides, next_gone, run_slides, run_moved, marks_cut, bytes_cut, sifted_all}
-use Rattle.loans.proofs.mark.Shelves.drop_loan.Goals as goal
+use Rattle.loans.proofs.shelves.Shelves.drop_loan.Goals as goal
 
 pub and-passed-requires-clause-marks : goal.and-passed-requires-clause-marks
 and-passed-requires-clause-marks c =

@@ -1,6 +1,6 @@
 use Rattle.std.proofs.Common.{◌-◌, length}
 use Rattle.loans.proofs.Sifted.{Sifted}
-use Rattle.loans.proofs.mark.Shelves.drop_loan.Given as goal
+use Rattle.loans.proofs.shelves.Shelves.drop_loan.Given as goal
 
 abbrev pub invariant-loop-passed : goal.invariant-loop-passed
 invariant-loop-passed l = Sifted l.initial.self l.self l.loan l.passed l.stays

@@ -1,0 +1,5 @@
+// Two neighbouring pixels together.
+
+/// Two neighbouring pixels share four bytes.
+#[derive(Clone, Copy)]
+pub struct Paired;
