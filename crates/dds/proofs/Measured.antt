@@ -54,14 +54,14 @@ plan_for w t l b shape name =
     }
 
 -- its sizes are in range, and its levels no more than the longest chain
-fine : ℕ → ℕ → ℕ → Shape → Bool
-fine w t l shape =
+in_limits : ℕ → ℕ → ℕ → Shape → Bool
+in_limits w t l shape =
     ((within (limit_of shape) w && within (limit_of shape) t) && (within (limit_of shape) (depth_of shape) && within 2048 (elements_of shape)))
     && not (ltb (longest_chain (max (max w t) (depth_of shape))) l)
 
-module _ {w t l b : ℕ} {shape : Shape} {name : FormatName} (ok : fine w t l shape ≡ true) (h : Header) (s : Says h w t l b shape name) where
+module _ {w t l b : ℕ} {shape : Shape} {name : FormatName} (ok : in_limits w t l shape ≡ true) (h : Header) (s : Says h w t l b shape name) where
   shape_ok : shape_read h ≡ Ok shape
-  unfolding fine
+  unfolding in_limits
   shape_ok =
       let p = and_parts ((within (limit_of shape) w && within (limit_of shape) t) && (within (limit_of shape) (depth_of shape) && within 2048 (elements_of shape)))
       (not (ltb (longest_chain (max (max w t) (depth_of shape))) l)) ok in
@@ -280,12 +280,12 @@ all_too_wide = record {
 accepts_dxt1 : (head : List ℕ) → PlainDxt1 head → (P : Layout → Type 0)
     → ((layout : Layout) → pieces_in layout ≡ pieces_of (plan_for 256 64 9 128 (Flat 1) (Block 8)) → layout.table.length ≡ 11080 → P layout)
     → (r : Result Layout Refusal) → OpenedBy (reading head 11080) (name_for plain_rows) r → AcceptedWith P r
-unfolding plan_for fine longest_chain
+unfolding plan_for in_limits longest_chain
 accepts_dxt1 head k =
     accepts refl (header_of head) (plain_dxt1 head k) (reading head 11080) (read_is head 11080 k.0 (lit≤ tt) (lit≤ tt) (inl (dxt1_plain head k.1.0))) refl
 
 pub figures : Figures
-unfolding plan_for fine longest_chain
+unfolding plan_for in_limits longest_chain
 figures = record {
   plain = λ head k. accepts refl (header_of head) (plain_24 head k) (reading head 262271) (read_is head 262271 k.0 (lit≤ tt) (lit≤ tt) (inl (bits_plain head k.1.0))) refl
       (λ _. Unit {0}) (λ _ _ _. tt);

@@ -15,7 +15,7 @@ use Rattle.dds.specs.Sound.{slices_in, size_in, plan_in, Sound}
 use Rattle.dds.specs.Tables.{blank}
 use Rattle.dds.specs.Pieces.{Placed, pieces_of}
 use Rattle.dds.specs.Places.{Stands, Holds}
-use Rattle.dds.specs.Spots.{SpotOf}
+use Rattle.dds.specs.steps.Spots.{SpotOf}
 use Rattle.dds.proofs.Placing.{entry_in, entry_stands}
 use Rattle.dds.proofs.Tiles.{pieces_between}
 

@@ -11,7 +11,7 @@ pub mod Pieces
 pub mod Sound
 pub mod Layouts
 pub mod Places
-pub mod Spots
 pub mod Counts
 pub mod Figures
 pub mod Texts
+pub mod steps

@@ -2,7 +2,7 @@
 ghost use Rattle.std.specs.Prelude.{◌≡◌, ◌+◌, ◌<◌, ◌≤◌, get_or, MatchOption, slice_index_or};
 ghost use Rattle.dds.specs.Tables.{blank};
 ghost use Rattle.dds.specs.Places.{place_with, where_in, WhereIs, WhoseIs, Shown, Tiled};
-ghost use Rattle.dds.specs.Spots.{SpotOf};
+ghost use Rattle.dds.specs.steps.Spots.{SpotOf};
 
 use crate::area::Area;
 use crate::layout::Layout;

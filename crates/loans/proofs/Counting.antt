@@ -4,8 +4,8 @@ use Rattle.std.proofs.lemmas.List.{get_or-take}
 use Rattle.dds.specs.declared.layout.Layout.{Layout}
 use Rattle.loans.specs.declared.ledger.Ledger.{Ledger}
 use Rattle.loans.specs.declared.loan.Loan.{Loan}
-use Rattle.loans.specs.Books.{Balanced, InOrder, LiesWithin, NumbersRise, outs, no_loan}
-use Rattle.loans.specs.Jobs.{Book, book_in, Orderly}
+use Rattle.loans.specs.Ledgers.{Balanced, InOrder, LiesWithin, NumbersRise, outs, no_loan}
+use Rattle.loans.specs.Books.{Book, book_in, Orderly}
 
 pub out_count : (l : Ledger) → Balanced l → length (outs l) ≡ l.out
 out_count l b = let a = b.0 in let c = b.1 in length-take-le l.out l.loans (omega arith)

@@ -3,19 +3,19 @@ use Rattle.std.proofs.Common.{◌≡◌, ℕ, suc, ◌+◌, ◌-◌, ◌*◌, �
 use Rattle.std.proofs.lemmas.List.{get_or-take, get_or-drop, get_or_append_left, get_or-append_right}
 use Rattle.std.proofs.lemmas.Bool.{cases_lt, cond-false, eqb-true, eqb-false, eq-eqb, ne_eqb, and_parts}
 use Rattle.shelf.proofs.Runs.{slid_front}
-use Rattle.loans.specs.declared.outcome.Ending.{Ending}
-use Rattle.loans.specs.declared.outcome.Ending.TheVariants.{Kept, Cancelled}
+use Rattle.loans.specs.declared.outcome.Outcome.{Outcome}
+use Rattle.loans.specs.declared.outcome.Outcome.TheVariants.{Kept, Cancelled}
 use Rattle.dds.specs.declared.layout.Layout.{Layout}
 use Rattle.loans.specs.declared.ledger.Ledger.{Ledger}
 use Rattle.loans.specs.declared.loan.Loan.{Loan}
 use Rattle.loans.specs.declared.mark.Mark.{Mark}
 use Rattle.loans.specs.Lists.{less_all}
-use Rattle.loans.specs.Books.{InOrder, Balanced, Inside, NumbersGiven, NumbersRise, outs, no_loan}
-use Rattle.loans.specs.Jobs.{book_in}
+use Rattle.loans.specs.Ledgers.{InOrder, Balanced, Inside, NumbersGiven, NumbersRise, outs, no_loan}
+use Rattle.loans.specs.Books.{book_in}
 use Rattle.loans.specs.Stocks.{Stock, is_number, of_loan, marks_of, all_counted}
 use Rattle.loans.specs.Strokes.{counted_loan}
-use Rattle.loans.specs.Finding.{StandsAt}
-use Rattle.loans.specs.Writing.{kept_by, cancelled_by, ledger_ended, book_ended}
+use Rattle.loans.specs.steps.Finding.{IsAt}
+use Rattle.loans.specs.steps.Writing.{kept_by, cancelled_by, ledger_ended, book_ended}
 use Rattle.loans.proofs.Counting.{rise_in, rise_from}
 use Rattle.loans.proofs.Marks.{marks_cons}
 use Rattle.loans.proofs.Recounting.{other_number}
@@ -51,7 +51,7 @@ recount_less (l ∷ ls) n ms h = go (eqb n l.number) refl (recount_less ls n ms 
         λ i. record { number = l.number; borrower = l.borrower; piece = l.piece; area = l.area; strokes = strokes i } ∷ r i
 
 -- the loans without the one at a position
-pub less_here : (ls : List Loan) (n k : ℕ) → NumbersRise ls → StandsAt ls n k → less_all (is_number n) ls ≡ take k ls ++ drop (k + 1) ls
+pub less_here : (ls : List Loan) (n k : ℕ) → NumbersRise ls → IsAt ls n k → less_all (is_number n) ls ≡ take k ls ++ drop (k + 1) ls
 less_here ls n k rising at =
     let on : suc k ≡ k + 1 = omega arith in
     less_at (is_number n) no_loan ls k at.inside
@@ -163,22 +163,22 @@ module _ (l : Ledger) (b : Balanced l) (k more less m y : ℕ) (out : k < l.out)
       record { balanced = ended_balanced one; inside = ended_inside a o.inside; given = ended_given o.given; rising = ended_rising one o.rising }
 
 -- a job's book after one of its loans ended
-pub ended_in : (l : Ledger) (b : Balanced l) (k : ℕ) (ending : Ending) (m y : ℕ) → k < l.out → (z : Layout) (stock : Stock) → m ≡ length stock.marks → y ≡ length stock.bytes
-    → book_in z (ledger_ended l k (kept_by ending) (cancelled_by ending) m y) ≡ book_ended (book_in z l) k ending stock
-ended_in l b k ending m y out z stock marks' bytes' =
-    let outs' = ended_outs l b k (kept_by ending) (cancelled_by ending) m y out in
+pub ended_in : (l : Ledger) (b : Balanced l) (k : ℕ) (outcome : Outcome) (m y : ℕ) → k < l.out → (z : Layout) (stock : Stock) → m ≡ length stock.marks → y ≡ length stock.bytes
+    → book_in z (ledger_ended l k (kept_by outcome) (cancelled_by outcome) m y) ≡ book_ended (book_in z l) k outcome stock
+ended_in l b k outcome m y out z stock marks' bytes' =
+    let outs' = ended_outs l b k (kept_by outcome) (cancelled_by outcome) m y out in
     λ i. record {
       layout = z;
       number = l.number;
       outs = outs' i;
       granted = l.granted;
-      kept = l.kept + kept_by ending;
-      cancelled = l.cancelled + cancelled_by ending;
+      kept = l.kept + kept_by outcome;
+      cancelled = l.cancelled + cancelled_by outcome;
       marks = marks' i;
       bytes = bytes' i;
     }
 
 -- each ending counts one loan
-pub counts_one : (e : Ending) → kept_by e + cancelled_by e ≡ 1
+pub counts_one : (e : Outcome) → kept_by e + cancelled_by e ≡ 1
 counts_one Kept = refl
 counts_one Cancelled = refl

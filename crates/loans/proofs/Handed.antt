@@ -8,13 +8,13 @@ use Rattle.refusal.specs.declared.Refusal.TheVariants.{OtherLength, LoanNotOut}
 use Rattle.loans.specs.declared.loan.Loan.{Loan}
 use Rattle.loans.specs.declared.mark.Mark.{Mark}
 use Rattle.loans.specs.Lists.{less_all}
-use Rattle.loans.specs.Books.{no_loan}
-use Rattle.loans.specs.Jobs.{Book, Orderly}
+use Rattle.loans.specs.Ledgers.{no_loan}
+use Rattle.loans.specs.Books.{Book, Orderly}
 use Rattle.loans.specs.Stocks.{Stock, is_number, is_out, the_loan}
 use Rattle.loans.specs.Strokes.{State, state_of, counted_loan, is_other_length, painted_stock, undone_stock}
-use Rattle.loans.specs.Ending.{kept_book, cancelled, stock_without}
-use Rattle.loans.specs.Rules.{Deed, call_refusal, carried_out, left, after}
-use Rattle.loans.specs.Rules.Deed.{lend, paint, undo, keep, cancel}
+use Rattle.loans.specs.LoanEnds.{kept_book, cancelled, stock_without}
+use Rattle.loans.specs.Rules.{Request, call_refusal, carried_out, left, after}
+use Rattle.loans.specs.Rules.Request.{lend, paint, undo, keep, cancel}
 use Rattle.loans.specs.Calls.{Carried}
 use Rattle.loans.specs.Handed.{LaterCall, later_book, is_on, RefusedAsNotOut, HandedIn}
 use Rattle.loans.proofs.Passing.{passed}
@@ -46,7 +46,7 @@ left_either P None s t a b = b
 left_either P (Some e) s t a b = a
 
 -- whatever call is carried out, the number is not given again
-gone_carried : (n : ℕ) (s : State) → Gone n s.book → (d : Deed) → Gone n (carried_out s d).book
+gone_carried : (n : ℕ) (s : State) → Gone n s.book → (d : Request) → Gone n (carried_out s d).book
 gone_carried n s g (lend p who) =
     record {
       not_out = some_of_push (is_number n) s.book.outs _ (ne_eqb n (s.book.granted + 1) (λ e. omega (arith, g.given))) ∙ g.not_out;
@@ -57,15 +57,15 @@ gone_carried n s g (undo m who) = record { not_out = counted_out n (undone_stock
 gone_carried n s g (keep m) = record { not_out = without_out n (stock_without s.stock m).marks s.book.outs m g.not_out; given = g.given }
 gone_carried n s g (cancel m) = record { not_out = without_out n (stock_without s.stock m).marks s.book.outs m g.not_out; given = g.given }
 
-gone_after : (n : ℕ) (s : State) → Gone n s.book → (d : Deed) → Gone n (after s d).book
+gone_after : (n : ℕ) (s : State) → Gone n s.book → (d : Request) → Gone n (after s d).book
 gone_after n s g d = left_either (λ (x : State). Gone n x.book) (call_refusal s d) s (carried_out s d) g (gone_carried n s g d)
 
 gone_later : (n : ℕ) (xs : List LaterCall) (b : Book) → Gone n b → Gone n (later_book b xs)
 gone_later n [] b g = g
-gone_later n (x ∷ xs) b g = gone_later n xs _ (gone_after n (state_of b x.file x.stock) g x.deed)
+gone_later n (x ∷ xs) b g = gone_later n xs _ (gone_after n (state_of b x.file x.stock) g x.request)
 
 -- the file is looked at first, then the loan
-by_length : (s : State) (d : Deed) → call_refusal s d ≡ cond (is_other_length s) (Some OtherLength) (Some LoanNotOut) → RefusedAsNotOut s d
+by_length : (s : State) (d : Request) → call_refusal s d ≡ cond (is_other_length s) (Some OtherLength) (Some LoanNotOut) → RefusedAsNotOut s d
 by_length s d e = go (eqb (length s.file) s.book.layout.table.length) refl e
   where
     go : (b : Bool) → eqb (length s.file) s.book.layout.table.length ≡ b → call_refusal s d ≡ cond (not b) (Some OtherLength) (Some LoanNotOut) → RefusedAsNotOut s d
@@ -78,7 +78,7 @@ by_length s d e = go (eqb (length s.file) s.book.layout.table.length) refl e
           not_out = λ h. absurd (true≢false (sym (eq-eqb (length s.file) s.book.layout.table.length h) ∙ q));
         }
 
-refused_as_not_out : (n : ℕ) (s : State) → is_out s.book.outs n ≡ false → (d : Deed) → is_on n d ≡ true → RefusedAsNotOut s d
+refused_as_not_out : (n : ℕ) (s : State) → is_out s.book.outs n ≡ false → (d : Request) → is_on n d ≡ true → RefusedAsNotOut s d
 refused_as_not_out n s g (lend p who) h = absurd (false≢true h)
 refused_as_not_out n s g (paint p) h =
     let out : is_out s.book.outs p.loan ≡ false = subst (λ m. is_out s.book.outs m ≡ false) (eqb-true n p.loan h) g in

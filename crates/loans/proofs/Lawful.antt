@@ -27,16 +27,16 @@ exists_parts t p e =
 
 pub lawful : (y : Layout) → Lawful y.table y.table.length
 lawful y =
-    let stands = entry_stands y.table y.sound in
+    let is_at = entry_stands y.table y.sound in
     record {
-      inside = λ p e. ((tiled y).inside _ (stands p (exists_parts y.table p e))).1;
+      inside = λ p e. ((tiled y).inside _ (is_at p (exists_parts y.table p e))).1;
       rows = λ p. refl;
       apart = λ p q place e f v w.
           ap (λ (x : Placed). x.piece)
-          ((tiled y).disjoint _ _ place (stands p (exists_parts y.table p e)) (stands q (exists_parts y.table q f)) v w);
+          ((tiled y).disjoint _ _ place (is_at p (exists_parts y.table p e)) (is_at q (exists_parts y.table q f)) v w);
     }
 
 -- the area of a piece by the table's numbers is that of the piece in the list
 pub listed_area : (y : Layout) (p : Piece) → exists_in y.table p ≡ true → AreaOf y p (area_in y.table p)
 listed_area y p e =
-    record { stands = entry_stands y.table y.sound p (exists_parts y.table p e); row_bytes = refl; rows = refl; length = refl }
+    record { is_at = entry_stands y.table y.sound p (exists_parts y.table p e); row_bytes = refl; rows = refl; length = refl }

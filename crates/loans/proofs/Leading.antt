@@ -5,8 +5,8 @@ use Rattle.std.proofs.lemmas.Bool.{cond-false, eq-eqb, ne_eqb}
 use Rattle.std.specs.List.{list_any}
 use Rattle.loans.specs.declared.mark.Mark.{Mark}
 use Rattle.loans.specs.Stocks.{of_loan, lengths}
-use Rattle.loans.specs.Sifting.{Leads}
-use Rattle.loans.specs.Taking.{no_mark}
+use Rattle.loans.specs.steps.Sifting.{Leads}
+use Rattle.loans.specs.steps.Taking.{no_mark}
 use Rattle.loans.proofs.Marks.{lengths_append}
 use Rattle.loans.proofs.Searches.{some_append}
 

@@ -14,8 +14,8 @@ mod Underneath
 mod Soundness
 mod Shelved
 pub mod Outs
-mod Good
-mod Ours
+mod Invariant
+mod Own
 mod TakenAsOwn
 mod Steps
 pub mod Runs
@@ -25,7 +25,7 @@ mod Undone
 mod Leading
 mod Sifted
 mod Ended
-mod Endings
+mod EndedBooks
 mod Restored
 mod Handed
 mod Scrapped

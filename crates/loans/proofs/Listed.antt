@@ -85,19 +85,19 @@ module _ {A : Type 0} where
         go true e h' later = (inl refl, e)
         go false e h' later = let r = later h' in (inr r.0, r.1)
 
-    pub among_kept_by : (xs : List A) (a : A) → Among (filter p xs) a → Among xs a × (p a ≡ true)
-    among_kept_by [] a m = absurd m
-    among_kept_by (x ∷ xs) a m = go (p x) refl m (λ m'. let r = among_kept_by xs a m' in (inr r.0, r.1))
+    pub among_filter : (xs : List A) (a : A) → Among (filter p xs) a → Among xs a × (p a ≡ true)
+    among_filter [] a m = absurd m
+    among_filter (x ∷ xs) a m = go (p x) refl m (λ m'. let r = among_filter xs a m' in (inr r.0, r.1))
       where
         go : (b : Bool) → p x ≡ b → Among (cond b (x ∷ filter p xs) (filter p xs)) a → (Among (filter p xs) a → Among (x ∷ xs) a × (p a ≡ true)) → Among (x ∷ xs) a × (p a ≡ true)
         go true e (inl q) later = (inl q, rw q e)
         go true e (inr m') later = later m'
         go false e m' later = later m'
 
-    pub kept_by_reverse : (xs : List A) → filter p (reverse xs) ≡ reverse (filter p xs)
-    kept_by_reverse [] = refl
-    kept_by_reverse (x ∷ xs) =
-        rw (reverse-cons x xs, filter-append p (reverse xs) (x ∷ []), kept_by_reverse xs)
+    pub filter_reverse : (xs : List A) → filter p (reverse xs) ≡ reverse (filter p xs)
+    filter_reverse [] = refl
+    filter_reverse (x ∷ xs) =
+        rw (reverse-cons x xs, filter-append p (reverse xs) (x ∷ []), filter_reverse xs)
         (elim (p x) as (λ b. reverse (filter p xs) ++ cond b (x ∷ []) [] ≡ reverse (cond b (x ∷ filter p xs) (filter p xs))) [ true ↦ sym (reverse-cons x (filter p xs)) | false ↦ append-nil (reverse (filter p xs)) ])
 
     pub all_less_first : (P : A → Type 0) (xs : List A) → All P xs → All P (less_first p xs)
@@ -137,19 +137,19 @@ module _ {A : Type 0} where
         go false e (inl s) = inl (record { front = x ∷ s.front; at = s.at; back = s.back; is = ap (λ ys. x ∷ ys) s.is; passes = s.passes; none = none_cons x s.front e s.none })
         go false e (inr n) = inr (none_cons x xs e n)
 
-  pub kept_by_same : (p q : A → Bool) (xs : List A) → All (λ x. p x ≡ q x) xs → filter p xs ≡ filter q xs
-  kept_by_same p q [] h = refl
-  kept_by_same p q (x ∷ xs) h =
+  pub filter_same_on : (p q : A → Bool) (xs : List A) → All (λ x. p x ≡ q x) xs → filter p xs ≡ filter q xs
+  filter_same_on p q [] h = refl
+  filter_same_on p q (x ∷ xs) h =
       let first : p x ≡ q x = h 0 x (omega arith) in
-      rw (first, kept_by_same p q xs (All-tail (λ y. p y ≡ q y) x xs h))
+      rw (first, filter_same_on p q xs (All-tail (λ y. p y ≡ q y) x xs h))
 
-  pub kept_by_twice : (p q : A → Bool) (xs : List A) → filter p (filter q xs) ≡ filter (λ x. q x && p x) xs
-  kept_by_twice p q [] = refl
-  kept_by_twice p q (x ∷ xs) = elim (q x) as (λ b. filter p (cond b (x ∷ filter q xs) (filter q xs)) ≡ cond (b && p x) (x ∷ filter (λ y. q y && p y) xs) (filter (λ y. q y && p y) xs)) [ true ↦ rw (kept_by_twice p q xs) | false ↦ kept_by_twice p q xs ]
+  pub filter_twice : (p q : A → Bool) (xs : List A) → filter p (filter q xs) ≡ filter (λ x. q x && p x) xs
+  filter_twice p q [] = refl
+  filter_twice p q (x ∷ xs) = elim (q x) as (λ b. filter p (cond b (x ∷ filter q xs) (filter q xs)) ≡ cond (b && p x) (x ∷ filter (λ y. q y && p y) xs) (filter (λ y. q y && p y) xs)) [ true ↦ rw (filter_twice p q xs) | false ↦ filter_twice p q xs ]
 
-  pub kept_by_map : {B : Type 0} (f : A → B) (p : B → Bool) (xs : List A) → filter p (map f xs) ≡ map f (filter (λ x. p (f x)) xs)
-  kept_by_map f p [] = refl
-  kept_by_map f p (x ∷ xs) = elim (p (f x)) as (λ b. cond b (f x ∷ filter p (map f xs)) (filter p (map f xs)) ≡ map f (cond b (x ∷ filter (λ y. p (f y)) xs) (filter (λ y. p (f y)) xs))) [ true ↦ ap (λ ys. f x ∷ ys) (kept_by_map f p xs) | false ↦ kept_by_map f p xs ]
+  pub filter_of_map : {B : Type 0} (f : A → B) (p : B → Bool) (xs : List A) → filter p (map f xs) ≡ map f (filter (λ x. p (f x)) xs)
+  filter_of_map f p [] = refl
+  filter_of_map f p (x ∷ xs) = elim (p (f x)) as (λ b. cond b (f x ∷ filter p (map f xs)) (filter p (map f xs)) ≡ map f (cond b (x ∷ filter (λ y. p (f y)) xs) (filter (λ y. p (f y)) xs))) [ true ↦ ap (λ ys. f x ∷ ys) (filter_of_map f p xs) | false ↦ filter_of_map f p xs ]
 
 pub all_reverse : {A : Type 0} (P : A → Type 0) (xs : List A) → All P xs → All P (reverse xs)
 all_reverse P [] h = All-nil P

@@ -9,7 +9,7 @@ use Rattle.shelf.specs.Runs.{without_run}
 use Rattle.loans.specs.declared.mark.Mark.{Mark}
 use Rattle.loans.specs.Stocks.{Stock, of_loan, marks_of, lengths}
 use Rattle.loans.specs.Strokes.{is_newest, marks_less, bytes_less, file_back, undone_stock}
-use Rattle.loans.specs.Taking.{no_mark, NewestAt, stock_less}
+use Rattle.loans.specs.steps.Taking.{no_mark, NewestAt, stock_less}
 use Rattle.loans.proofs.Marks.{marks_cons, lengths_cons, lengths_append}
 
 -- of the marks up to a position, the last, and those before it

@@ -9,12 +9,12 @@ use Rattle.dds.specs.Readings.{Reading}
 use Rattle.dds.specs.Sources.{source_of}
 use Rattle.dds.specs.Headers.{header_read, header_name}
 use Rattle.dds.specs.Layouts.{OpenedAs, OpenedIn, OpenedBy}
-use Rattle.loans.specs.Jobs.{Book, fresh_book}
+use Rattle.loans.specs.Books.{Book, fresh_book}
 use Rattle.loans.specs.Stocks.{Stock, empty_stock}
-use Rattle.loans.specs.Rules.{Deed, after_all}
+use Rattle.loans.specs.Rules.{Request, after_all}
 use Rattle.loans.specs.Runs.{opened_state}
-use Rattle.loans.specs.Scrapping.{AtHome}
-use Rattle.loans.proofs.Runs.{law_run, ours_run}
+use Rattle.loans.specs.Scrapping.{WithOwn}
+use Rattle.loans.proofs.Runs.{law_run, own_run}
 
 -- ---- the file has the length that the job writes down
 
@@ -41,11 +41,11 @@ pub opened_is : {b : Book} {k m : Stock} (y : Layout) (number : ℕ) (f : List �
 opened_is y number f e h = λ i. record { book = e i; file = f; stock = h i }
 
 -- after every list of calls file and shelves are the job's
-pub home_run : (y : Layout) (number : ℕ) (file : List ℕ) (k : Stock) (ds : List Deed) → length file ≡ y.table.length → k.marks ≡ [] → k.bytes ≡ []
-    → AtHome (after_all (opened_state y number file k) ds)
-home_run y number file k ds e a b =
-    let ours = ours_run y number file k ds e a b in
+pub with_own_run : (y : Layout) (number : ℕ) (file : List ℕ) (k : Stock) (ds : List Request) → length file ≡ y.table.length → k.marks ≡ [] → k.bytes ≡ []
+    → WithOwn (after_all (opened_state y number file k) ds)
+with_own_run y number file k ds e a b =
+    let own_shelves = own_run y number file k ds e a b in
     record {
-      sized = ours.1 ∙ sym (ap (λ (x : Layout). x.table.length) (law_run y number file k ds e a b).layout);
-      ours = ours.0;
+      sized = own_shelves.1 ∙ sym (ap (λ (x : Layout). x.table.length) (law_run y number file k ds e a b).layout);
+      own_shelves = own_shelves.0;
     }

@@ -8,15 +8,15 @@ use Rattle.dds.specs.declared.piece.Piece.{Piece}
 use Rattle.loans.specs.declared.loan.Loan.{Loan}
 use Rattle.loans.specs.declared.mark.Mark.{Mark}
 use Rattle.loans.specs.Lists.{less_all}
-use Rattle.loans.specs.Books.{no_loan}
-use Rattle.loans.specs.Jobs.{Book}
+use Rattle.loans.specs.Ledgers.{no_loan}
+use Rattle.loans.specs.Books.{Book}
 use Rattle.loans.specs.Lending.{same_piece, piece_is_out}
 use Rattle.loans.specs.Stocks.{Stock, is_number, is_out, the_loan, of_loan, marks_of, all_counted}
 use Rattle.loans.specs.Strokes.{counted_loan, recounted}
-use Rattle.loans.specs.Ending.{stock_without, book_without}
-use Rattle.loans.specs.History.{Stroke, stroke_of, undoable, mark_of, shelved}
+use Rattle.loans.specs.LoanEnds.{stock_without, book_without}
+use Rattle.loans.specs.Journals.{Stroke, stroke_of, undoable, mark_of, shelved}
 use Rattle.loans.specs.Law.{NumberedFromOne}
-use Rattle.loans.proofs.Listed.{Among, all_of, less_all_none, kept_by_same, kept_by_twice, kept_by_reverse, kept_by_map, first_among, some_of_map}
+use Rattle.loans.proofs.Listed.{Among, all_of, less_all_none, filter_same_on, filter_twice, filter_reverse, filter_of_map, first_among, some_of_map}
 use Rattle.loans.proofs.Shelved.{live, Even, bytes_of_is}
 
 -- the loan of a number that is out
@@ -76,10 +76,10 @@ loan_less (l ∷ ls) n m ne = go (eqb n l.number) refl (loan_less ls n m ne)
 
 -- the strokes on the shelves once the loan n has ended, kept or cancelled
 pub undoable_kept : (ls : List Loan) (n : ℕ) (ss : List Stroke) → undoable (less_all (is_number n) ls) ss ≡ less_all (stroke_of n) (undoable ls ss)
-undoable_kept ls n ss = sym (kept_by_reverse (λ s. not (stroke_of n s)) (live ls ss) ∙ ap reverse (kept_by_twice _ _ ss ∙ kept_by_same _ _ ss (all_of _ (λ s. sym (out_less ls n s.painting.loan)) ss)))
+undoable_kept ls n ss = sym (filter_reverse (λ s. not (stroke_of n s)) (live ls ss) ∙ ap reverse (filter_twice _ _ ss ∙ filter_same_on _ _ ss (all_of _ (λ s. sym (out_less ls n s.painting.loan)) ss)))
 
 pub undoable_cancelled : (ls : List Loan) (n : ℕ) (ss : List Stroke) → undoable (less_all (is_number n) ls) (less_all (stroke_of n) ss) ≡ undoable (less_all (is_number n) ls) ss
-undoable_cancelled ls n ss = ap reverse (kept_by_twice _ _ ss ∙ kept_by_same _ _ ss (all_of _ same ss))
+undoable_cancelled ls n ss = ap reverse (filter_twice _ _ ss ∙ filter_same_on _ _ ss (all_of _ same ss))
   where
     same : (s : Stroke) → (not (stroke_of n s) && is_out (less_all (is_number n) ls) s.painting.loan) ≡ is_out (less_all (is_number n) ls) s.painting.loan
     same s = rw (out_less ls n s.painting.loan) (and_not (stroke_of n s) (is_out ls s.painting.loan))
@@ -88,7 +88,7 @@ undoable_cancelled ls n ss = ap reverse (kept_by_twice _ _ ss ∙ kept_by_same _
 pub end_stock : (mm mb : ℕ) (ls : List Loan) (n : ℕ) (ss : List Stroke) → All Even (undoable ls ss)
     → stock_without (shelved mm mb (undoable ls ss)) n ≡ shelved mm mb (undoable (less_all (is_number n) ls) ss)
 end_stock mm mb ls n ss even =
-    let ms = kept_by_map mark_of (λ m. not (of_loan n m)) (undoable ls ss) in
+    let ms = filter_of_map mark_of (λ m. not (of_loan n m)) (undoable ls ss) in
     let ks = bytes_of_is (λ m. not (of_loan n m)) (undoable ls ss) even in
     (λ i. record { marks = ms i; bytes = ks i; most_marks = mm; most_bytes = mb }) ∙ ap (shelved mm mb) (sym (undoable_kept ls n ss))
 
@@ -105,9 +105,9 @@ rising_push (x ∷ ls) l r h =
       rising_push ls l r.1 (All-tail below x ls h),
     )
 
-pub rising_kept : (p : Loan → Bool) (ls : List Loan) → Rising ls → Rising (filter p ls)
-rising_kept p [] r = tt
-rising_kept p (l ∷ ls) r = elim (p l) as (λ b. Rising (cond b (l ∷ filter p ls) (filter p ls))) [ true ↦ (All-filter p (λ (k : Loan). l.number < k.number) ls r.0, rising_kept p ls r.1) | false ↦ rising_kept p ls r.1 ]
+pub rising_filter : (p : Loan → Bool) (ls : List Loan) → Rising ls → Rising (filter p ls)
+rising_filter p [] r = tt
+rising_filter p (l ∷ ls) r = elim (p l) as (λ b. Rising (cond b (l ∷ filter p ls) (filter p ls))) [ true ↦ (All-filter p (λ (k : Loan). l.number < k.number) ls r.0, rising_filter p ls r.1) | false ↦ rising_filter p ls r.1 ]
 
 -- a loan that ends is one loan less
 pub one_less : (n : ℕ) (ls : List Loan) → Rising ls → is_out ls n ≡ true → length ls ≡ suc (length (less_all (is_number n) ls))
@@ -150,7 +150,7 @@ module _ (ms : List Mark) where
   again_counted more (l ∷ ls) = ap (λ (v : List Loan). counted_loan more l ∷ v) (again_counted more ls)
 
   pub less_counted : (n : ℕ) (ls : List Loan) → less_all (is_number n) (map (counted_loan ms) ls) ≡ map (counted_loan ms) (less_all (is_number n) ls)
-  less_counted n ls = kept_by_map (counted_loan ms) (λ l. not (is_number n l)) ls
+  less_counted n ls = filter_of_map (counted_loan ms) (λ l. not (is_number n l)) ls
 
   pub all_counted_lem : (ls : List Loan) → all_counted (map (counted_loan ms) ls) ms ≡ true
   all_counted_lem [] = refl

@@ -6,12 +6,12 @@ use Rattle.dds.specs.declared.layout.Layout.{Layout}
 use Rattle.loans.specs.declared.ledger.Ledger.{Ledger}
 use Rattle.loans.specs.declared.loan.Loan.{Loan}
 use Rattle.loans.specs.declared.mark.Mark.{Mark}
-use Rattle.loans.specs.Books.{InOrder, Balanced, Inside, NumbersGiven, NumbersRise, outs, no_loan, loan_with}
-use Rattle.loans.specs.Jobs.{book_in}
+use Rattle.loans.specs.Ledgers.{InOrder, Balanced, Inside, NumbersGiven, NumbersRise, outs, no_loan, loan_with}
+use Rattle.loans.specs.Books.{book_in}
 use Rattle.loans.specs.Stocks.{Stock, marks_of, all_counted}
 use Rattle.loans.specs.Strokes.{counted_loan}
-use Rattle.loans.specs.Finding.{StandsAt}
-use Rattle.loans.specs.Writing.{ledger_counted, book_counted}
+use Rattle.loans.specs.steps.Finding.{IsAt}
+use Rattle.loans.specs.steps.Writing.{ledger_counted, book_counted}
 use Rattle.loans.proofs.Counting.{rise_in, rise_from}
 
 -- two positions are the same or not
@@ -32,7 +32,7 @@ get_or_map_loan g (l ∷ ls) zero f = refl
 get_or_map_loan g (l ∷ ls) (suc k) f = get_or_map_loan g ls k (omega arith)
 
 -- no other loan has the number
-pub other_number : (ls : List Loan) → NumbersRise ls → (n k j : ℕ) → StandsAt ls n k → j < length ls → j ≢ k → (get_or ls j no_loan).number ≢ n
+pub other_number : (ls : List Loan) → NumbersRise ls → (n k j : ℕ) → IsAt ls n k → j < length ls → j ≢ k → (get_or ls j no_loan).number ≢ n
 other_number ls rising n k j at h ne e =
     ⊎_elim (λ (same : j ≡ k). ne same)
     (⊎_elim (λ (less : j < k). omega (arith, rising j k less at.inside, at.number))
@@ -40,7 +40,7 @@ other_number ls rising n k j at h ne e =
     (cases_order j k)
 
 -- where only the marks of one loan changed in number, one count written anew counts all loans
-pub recount_at : (ls : List Loan) (ms ms' : List Mark) (n k : ℕ) → all_counted ls ms ≡ true → NumbersRise ls → StandsAt ls n k
+pub recount_at : (ls : List Loan) (ms ms' : List Mark) (n k : ℕ) → all_counted ls ms ≡ true → NumbersRise ls → IsAt ls n k
     → ((m : ℕ) → m ≢ n → marks_of m ms' ≡ marks_of m ms)
     → set ls k (loan_with (get_or ls k no_loan) (marks_of n ms')) ≡ map (counted_loan ms') ls
 recount_at ls ms ms' n k counted rising at others =

@@ -6,8 +6,8 @@ use Rattle.std.proofs.lemmas.List.{take_more, at_drop_more}
 use Rattle.std.proofs.lemmas.Bool.{cond-true, cond-false, eq-eqb, ne_eqb}
 use Rattle.loans.specs.declared.mark.Mark.{Mark}
 use Rattle.loans.specs.Stocks.{of_loan, lengths}
-use Rattle.loans.specs.Taking.{no_mark}
-use Rattle.loans.specs.Ending.{restored, InFile}
+use Rattle.loans.specs.steps.Taking.{no_mark}
+use Rattle.loans.specs.LoanEnds.{restored, InFile}
 use Rattle.loans.proofs.Marks.{lengths_append}
 use Rattle.loans.proofs.Newest.{Stepped}
 

@@ -5,16 +5,16 @@ use Rattle.std.proofs.lemmas.Bool.{and_parts, eqb-true}
 use Rattle.refusal.specs.declared.Refusal.{Refusal}
 use Rattle.dds.specs.declared.layout.Layout.{Layout}
 use Rattle.loans.specs.declared.docket.Docket.{Docket}
-use Rattle.loans.specs.Jobs.{Book, fresh_book}
-use Rattle.loans.specs.Stocks.{Stock, SameRoom, are_ours}
+use Rattle.loans.specs.Books.{Book, fresh_book}
+use Rattle.loans.specs.Stocks.{Stock, SameRoom, are_own}
 use Rattle.loans.specs.Strokes.{State, state_of}
 use Rattle.loans.specs.Rules.{answers_to, after_all}
-use Rattle.loans.specs.History.{history_of}
+use Rattle.loans.specs.Journals.{journal_of}
 use Rattle.loans.specs.Law.{Law}
-use Rattle.loans.specs.Runs.{opened_state, is_empty, OursAlong, AllDone, Ordered, FileOpened, RanSo}
+use Rattle.loans.specs.Runs.{opened_state, is_empty, OwnAlong, AllDone, Ordered, FileOpened, RanSo}
 use Rattle.loans.proofs.Calls.{answers_to_length}
 use Rattle.loans.proofs.Limits.{same_after_all}
-use Rattle.loans.proofs.Runs.{law_run, ours_run}
+use Rattle.loans.proofs.Runs.{law_run, own_run}
 
 module _ (o : Ordered) (t : Book) (y : Layout) (opened : FileOpened o (Ok y)) (book : t ≡ fresh_book y (Some o.number)) where
   abbrev first : State
@@ -27,14 +27,14 @@ module _ (o : Ordered) (t : Book) (y : Layout) (opened : FileOpened o (Ok y)) (b
   sized = sym opened.table.length
 
   -- shelves that are empty at first are the job's all along
-  pub opened_along : (known : Bool) → known ≡ is_empty o.shelves → OursAlong known (state_of t o.file o.shelves) o.calls
+  pub opened_along : (known : Bool) → known ≡ is_empty o.shelves → OwnAlong known (state_of t o.file o.shelves) o.calls
   opened_along known is e i =
       let k : Stock = o.shelves in
       let both = and_parts (eqb (length k.marks) 0) (eqb (length k.bytes) 0) (sym is ∙ e) in
       let marks : k.marks ≡ [] = nil_from_length k.marks (eqb-true _ _ both.0) in
       let bytes : k.bytes ≡ [] = nil_from_length k.bytes (eqb-true _ _ both.1) in
-      subst (λ (s : State). are_ours (after_all s (take i o.calls)).book (after_all s (take i o.calls)).stock ≡ true) (sym first_is)
-      (ours_run y o.number o.file k (take i o.calls) sized marks bytes).0
+      subst (λ (s : State). are_own (after_all s (take i o.calls)).book (after_all s (take i o.calls)).stock ≡ true) (sym first_is)
+      (own_run y o.number o.file k (take i o.calls) sized marks bytes).0
 
   pub run_made : (d : Docket) → d.0 ≡ o.number → length o.old + length o.calls ≤ o.room → (u : State) (old new : List (Result ℕ Refusal)) → old ≡ o.old
       → AllDone o.calls (state_of t o.file o.shelves) old u new → RanSo o d u new
@@ -51,6 +51,6 @@ module _ (o : Ordered) (t : Book) (y : Layout) (opened : FileOpened o (Ok y)) (b
         by_rules = refl;
         state = is;
         same_room = subst (λ (s : State). SameRoom o.shelves s.stock) (sym is) (same_after_all first o.calls);
-        law = λ marks bytes. subst (Law y o.number o.shelves.most_marks o.shelves.most_bytes o.file (history_of o.calls (answers_to first o.calls))) (sym is)
+        law = λ marks bytes. subst (Law y o.number o.shelves.most_marks o.shelves.most_bytes o.file (journal_of o.calls (answers_to first o.calls))) (sym is)
             (law_run y o.number o.file o.shelves o.calls sized marks bytes);
       }

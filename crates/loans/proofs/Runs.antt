@@ -10,21 +10,21 @@ use Rattle.dds.specs.declared.table.Table.{Table}
 use Rattle.dds.specs.Places.{AreaOf}
 use Rattle.loans.specs.declared.loan.Loan.{Loan}
 use Rattle.loans.specs.declared.mark.Mark.{Mark}
-use Rattle.loans.specs.Jobs.{fresh_book}
-use Rattle.loans.specs.Books.{no_loan}
-use Rattle.loans.specs.Stocks.{Stock, is_number, is_out, the_loan, are_ours}
+use Rattle.loans.specs.Books.{fresh_book}
+use Rattle.loans.specs.Ledgers.{no_loan}
+use Rattle.loans.specs.Stocks.{Stock, is_number, is_out, the_loan, are_own}
 use Rattle.loans.specs.Strokes.{State, counted_loan}
-use Rattle.loans.specs.Rules.{Deed, call_refusal, carried_out, number_for, refusal_or, left, answer_to, after, answers_to, after_all}
-use Rattle.loans.specs.Rules.Deed.{lend, paint, undo, keep, cancel}
-use Rattle.loans.specs.History.{Event, Stroke, written_down, history_of, lent, out_in, keeps_in, cancels_in, stroke_of, standing_after, standing, laid_after, ever_laid, byte_under, undoable, mark_of, told}
+use Rattle.loans.specs.Rules.{Request, call_refusal, carried_out, number_for, refusal_or, left, answer_to, after, answers_to, after_all}
+use Rattle.loans.specs.Rules.Request.{lend, paint, undo, keep, cancel}
+use Rattle.loans.specs.Journals.{Event, Stroke, written_down, journal_of, lent, out_in, keeps_in, cancels_in, stroke_of, standing_after, standing, laid_after, ever_laid, byte_under, undoable, mark_of, replayed}
 use Rattle.loans.specs.Law.{Answered, TakenAsOwn, OfPiece, OfListed, CountsMarks, InRow, Law}
 use Rattle.loans.specs.Runs.{opened_state}
 use Rattle.loans.proofs.Listed.{all_of, all_less_first, first_among, all_among}
 use Rattle.loans.proofs.Lawful.{Lawful, lawful, listed_area}
-use Rattle.loans.proofs.Good.{good_none, outs_apart}
-use Rattle.loans.proofs.Ours.{told_ours, told_same, told_length}
+use Rattle.loans.proofs.Invariant.{invariant_none, outs_apart}
+use Rattle.loans.proofs.Own.{replayed_own, replayed_same, replayed_length}
 use Rattle.loans.proofs.TakenAsOwn.{not_anothers, own_answer}
-use Rattle.loans.proofs.Steps.{Fine, Next, step_lend, step_paint, step_undo, step_keep, step_cancel}
+use Rattle.loans.proofs.Steps.{WholeInvariant, Next, step_lend, step_paint, step_undo, step_keep, step_cancel}
 
 -- loans that are counted by marks count them
 all_count_marks : (ms : List Mark) (ls : List Loan) → All (CountsMarks ms) (map (counted_loan ms) ls)
@@ -35,16 +35,16 @@ module _ (y : Layout) (number mm mb : ℕ) (opening : List ℕ) (lawful : Lawful
   abbrev t : Table
   t = y.table
 
-  abbrev FineIn : List Event → Type 0
-  FineIn h = Fine t mm mb opening (lent t h) (out_in t h) (keeps_in h) (cancels_in h) (standing t opening h) (ever_laid t opening h)
+  abbrev WholeIn : List Event → Type 0
+  WholeIn h = WholeInvariant t mm mb opening (lent t h) (out_in t h) (keeps_in h) (cancels_in h) (standing t opening h) (ever_laid t opening h)
 
   abbrev NextIn : State → List Event → Type 0
   NextIn s h = Next y number mm mb opening s (lent t h) (out_in t h) (keeps_in h) (cancels_in h) (standing t opening h) (ever_laid t opening h)
 
   abbrev here : List Event → State
-  here h = told y number mm mb opening h
+  here h = replayed y number mm mb opening h
 
-  carried : (h : List Event) → FineIn h → (d : Deed) → call_refusal (here h) d ≡ None
+  carried : (h : List Event) → WholeIn h → (d : Request) → call_refusal (here h) d ≡ None
       → NextIn (carried_out (here h) d) (record { call = d; answer = refusal_or None (number_for (carried_out (here h) d) d) } ∷ h)
   carried h f (lend p who) e = step_lend y number mm mb opening (lent t h) (out_in t h) (keeps_in h) (cancels_in h) (standing t opening h) (ever_laid t opening h) lawful f p who e
   carried h f (paint p) e = step_paint y number mm mb opening (lent t h) (out_in t h) (keeps_in h) (cancels_in h) (standing t opening h) (ever_laid t opening h) lawful f p e
@@ -52,64 +52,64 @@ module _ (y : Layout) (number mm mb : ℕ) (opening : List ℕ) (lawful : Lawful
   carried h f (keep n) e = step_keep y number mm mb opening (lent t h) (out_in t h) (keeps_in h) (cancels_in h) (standing t opening h) (ever_laid t opening h) lawful f n e
   carried h f (cancel n) e = step_cancel y number mm mb opening (lent t h) (out_in t h) (keeps_in h) (cancels_in h) (standing t opening h) (ever_laid t opening h) lawful f n e
 
-  step : (h : List Event) → FineIn h → (d : Deed) → NextIn (after (here h) d) (record { call = d; answer = answer_to (here h) d } ∷ h)
+  step : (h : List Event) → WholeIn h → (d : Request) → NextIn (after (here h) d) (record { call = d; answer = answer_to (here h) d } ∷ h)
   step h f d = go (call_refusal (here h) d) refl
     where
       go : (r : Option Refusal) → call_refusal (here h) d ≡ r
           → NextIn (left r (here h) (carried_out (here h) d)) (record { call = d; answer = refusal_or r (number_for (carried_out (here h) d) d) } ∷ h)
       go None e = carried h f d e
-      go (Some x) e = record { state = refl; fine = f }
+      go (Some x) e = record { state = refl; whole = f }
 
-  here_ours : (h : List Event) → FineIn h → are_ours (here h).book (here h).stock ≡ true
-  here_ours h f = told_ours y number mm mb opening (lent t h) (out_in t h) (keeps_in h) (cancels_in h) (standing t opening h) f.good
+  here_own : (h : List Event) → WholeIn h → are_own (here h).book (here h).stock ≡ true
+  here_own h f = replayed_own y number mm mb opening (lent t h) (out_in t h) (keeps_in h) (cancels_in h) (standing t opening h) f.invariant
 
-  taken_as_own : (h : List Event) → FineIn h → (d : Deed) → TakenAsOwn (record { call = d; answer = answer_to (here h) d })
+  taken_as_own : (h : List Event) → WholeIn h → (d : Request) → TakenAsOwn (record { call = d; answer = answer_to (here h) d })
   taken_as_own h f d =
       own_answer (call_refusal (here h) d) _
-      (not_anothers (here h) (told_same y number mm mb opening (lent t h) (out_in t h) (keeps_in h) (cancels_in h) (standing t opening h) same) (here_ours h f) d)
+      (not_anothers (here h) (replayed_same y number mm mb opening (lent t h) (out_in t h) (keeps_in h) (cancels_in h) (standing t opening h) same) (here_own h f) d)
 
   -- what holds after a history
-  record Stands (s : State) (h : List Event) : Type 0 where
+  record After (s : State) (h : List Event) : Type 0 where
     answers : Answered y number mm mb opening h
     own : All TakenAsOwn h
     state : s ≡ here h
-    fine : FineIn h
+    whole : WholeIn h
 
-  one_more : (s : State) (h : List Event) → Stands s h → (d : Deed) → Stands (after s d) (record { call = d; answer = answer_to s d } ∷ h)
+  one_more : (s : State) (h : List Event) → After s h → (d : Request) → After (after s d) (record { call = d; answer = answer_to s d } ∷ h)
   one_more s h w d =
       let e = w.state in
       let next : NextIn (after s d) (record { call = d; answer = answer_to s d } ∷ h) =
-      subst (λ (x : State). NextIn (after x d) (record { call = d; answer = answer_to x d } ∷ h)) (sym e) (step h w.fine d) in
+      subst (λ (x : State). NextIn (after x d) (record { call = d; answer = answer_to x d } ∷ h)) (sym e) (step h w.whole d) in
       record {
         answers = (ap (λ (x : State). answer_to x d) e, w.answers);
         own =
             All-cons TakenAsOwn _ h
-            (subst (λ (x : State). TakenAsOwn (record { call = d; answer = answer_to x d })) (sym e) (taken_as_own h w.fine d)) w.own;
+            (subst (λ (x : State). TakenAsOwn (record { call = d; answer = answer_to x d })) (sym e) (taken_as_own h w.whole d)) w.own;
         state = next.state;
-        fine = next.fine;
+        whole = next.whole;
       }
 
-  all_stand_lem : (ds : List Deed) (s : State) (h : List Event) → Stands s h → Stands (after_all s ds) (written_down h ds (answers_to s ds))
-  all_stand_lem [] s h w = w
-  all_stand_lem (d ∷ ds) s h w = all_stand_lem ds (after s d) (record { call = d; answer = answer_to s d } ∷ h) (one_more s h w d)
+  after_all_lem : (ds : List Request) (s : State) (h : List Event) → After s h → After (after_all s ds) (written_down h ds (answers_to s ds))
+  after_all_lem [] s h w = w
+  after_all_lem (d ∷ ds) s h w = after_all_lem ds (after s d) (record { call = d; answer = answer_to s d } ∷ h) (one_more s h w d)
 
   listed : (l : Loan) → OfPiece t l → OfListed y l
   listed l p = subst (AreaOf y l.piece) (sym p.1) (listed_area y l.piece p.0)
 
-  stands_law : (s : State) (h : List Event) → Stands s h → Law y number mm mb opening h s
-  stands_law s h w =
+  after_law : (s : State) (h : List Event) → After s h → Law y number mm mb opening h s
+  after_law s h w =
       let e = w.state in
-      let f = w.fine in
+      let f = w.whole in
       let ss : List Stroke = standing t opening h in
       record {
-        same_length = ap (λ (x : State). length x.file) e ∙ told_length opening ss;
+        same_length = ap (λ (x : State). length x.file) e ∙ replayed_length opening ss;
         each_byte = λ place low. ap (λ (x : State). get_or x.file place 0) e ∙ get_or-map-range_with_len (byte_under opening ss) 0 (length opening) place place 0 low (omega arith);
         marks = ap (λ (x : State). x.stock.marks) e;
         kept_bytes = ap (λ (x : State). x.stock.bytes) e;
         marks_room = ap (λ (x : State). x.stock.most_marks) e;
         bytes_room = ap (λ (x : State). x.stock.most_bytes) e;
-        marks_fit = subst (λ (n : ℕ). n ≤ mm) (sym (ap (λ (x : State). length x.stock.marks) e ∙ length-map (undoable (out_in t h) ss) mark_of)) f.good.fits.marks;
-        bytes_fit = subst (λ (n : ℕ). n ≤ mb) (sym (ap (λ (x : State). length x.stock.bytes) e)) f.good.fits.bytes;
+        marks_fit = subst (λ (n : ℕ). n ≤ mm) (sym (ap (λ (x : State). length x.stock.marks) e ∙ length-map (undoable (out_in t h) ss) mark_of)) f.invariant.fits.marks;
+        bytes_fit = subst (λ (n : ℕ). n ≤ mb) (sym (ap (λ (x : State). length x.stock.bytes) e)) f.invariant.fits.bytes;
         numbered = ap (λ (x : State). x.book.number) e;
         layout = ap (λ (x : State). x.book.layout) e;
         loans = ap (λ (x : State). x.book.outs) e ∙ ap (λ ms. map (counted_loan ms) (out_in t h)) (sym (ap (λ (x : State). x.stock.marks) e));
@@ -122,44 +122,44 @@ module _ (y : Layout) (number mm mb : ℕ) (opening : List ℕ) (lawful : Lawful
         byte_count = subst (λ (x : State). x.book.bytes ≡ length x.stock.bytes) (sym e) refl;
         answers = w.answers;
         own = w.own;
-        numbers = f.good.numbers;
-        pieces = f.good.pieces;
-        areas = All-weaker (OfPiece t) (OfListed y) listed (lent t h) f.good.pieces;
-        apart = outs_apart t mm mb opening (lent t h) (out_in t h) ss f.good lawful;
+        numbers = f.invariant.numbers;
+        pieces = f.invariant.pieces;
+        areas = All-weaker (OfPiece t) (OfListed y) listed (lent t h) f.invariant.pieces;
+        apart = outs_apart t mm mb opening (lent t h) (out_in t h) ss f.invariant lawful;
         rows = f.rows;
       }
 
-  stands_ours : (s : State) (h : List Event) → Stands s h → (are_ours s.book s.stock ≡ true) × (length s.file ≡ t.length)
-  stands_ours s h w =
+  after_own : (s : State) (h : List Event) → After s h → (are_own s.book s.stock ≡ true) × (length s.file ≡ t.length)
+  after_own s h w =
       let e = w.state in (
-        subst (λ (x : State). are_ours x.book x.stock ≡ true) (sym e) (here_ours h w.fine),
-        ap (λ (x : State). length x.file) e ∙ told_length opening (standing t opening h) ∙ same,
+        subst (λ (x : State). are_own x.book x.stock ≡ true) (sym e) (here_own h w.whole),
+        ap (λ (x : State). length x.file) e ∙ replayed_length opening (standing t opening h) ∙ same,
       )
 
-  opened : (k : Stock) → k.marks ≡ [] → k.bytes ≡ [] → k.most_marks ≡ mm → k.most_bytes ≡ mb → Stands (opened_state y number opening k) []
+  opened : (k : Stock) → k.marks ≡ [] → k.bytes ≡ [] → k.most_marks ≡ mm → k.most_bytes ≡ mb → After (opened_state y number opening k) []
   opened k a b c d =
       let file' = fill_by_all (byte_under opening []) opening (length opening) 0 refl (λ i h. refl) in
       record {
         answers = tt;
         own = All-nil TakenAsOwn;
         state = λ i. record { book = fresh_book y (Some number); file = file' i; stock = record { marks = a i; bytes = b i; most_marks = c i; most_bytes = d i } };
-        fine = record { good = good_none t mm mb opening; rows = All-nil (InRow []); balance = refl };
+        whole = record { invariant = invariant_none t mm mb opening; rows = All-nil (InRow []); balance = refl };
       }
 
 -- the law over every list of calls on a job just opened
-pub law_run : (y : Layout) (number : ℕ) (file : List ℕ) (k : Stock) (ds : List Deed) → length file ≡ y.table.length → k.marks ≡ [] → k.bytes ≡ []
-    → Law y number k.most_marks k.most_bytes file (history_of ds (answers_to (opened_state y number file k) ds))
+pub law_run : (y : Layout) (number : ℕ) (file : List ℕ) (k : Stock) (ds : List Request) → length file ≡ y.table.length → k.marks ≡ [] → k.bytes ≡ []
+    → Law y number k.most_marks k.most_bytes file (journal_of ds (answers_to (opened_state y number file k) ds))
     (after_all (opened_state y number file k) ds)
 law_run y number file k ds e a b =
     let l : Lawful y.table (length file) = subst (Lawful y.table) (sym e) (lawful y) in
-    stands_law y number k.most_marks k.most_bytes file l e _ _
-    (all_stand_lem y number k.most_marks k.most_bytes file l e ds (opened_state y number file k) []
+    after_law y number k.most_marks k.most_bytes file l e _ _
+    (after_all_lem y number k.most_marks k.most_bytes file l e ds (opened_state y number file k) []
     (opened y number k.most_marks k.most_bytes file l e k a b refl refl))
 
 -- the law's clauses together give job, file and shelves back as the history tells them
-pub told_again : (y : Layout) (number mm mb : ℕ) (opening : List ℕ) (h : List Event) (s : State) → Law y number mm mb opening h s
-    → s ≡ told y number mm mb opening h
-told_again y number mm mb opening h s law =
+pub replayed_again : (y : Layout) (number mm mb : ℕ) (opening : List ℕ) (h : List Event) (s : State) → Law y number mm mb opening h s
+    → s ≡ replayed y number mm mb opening h
+replayed_again y number mm mb opening h s law =
     let file' = fill_by_all (byte_under opening (standing y.table opening h)) s.file (length opening) 0 law.same_length law.each_byte in
     let outs' = law.loans ∙ ap (λ ms. map (counted_loan ms) (out_in y.table h)) law.marks in
     let marks' = law.mark_count ∙ ap length law.marks in
@@ -180,13 +180,13 @@ told_again y number mm mb opening h s law =
     }
 
 -- after every list of calls the shelves are the job's, and the file has the job's length
-pub ours_run : (y : Layout) (number : ℕ) (file : List ℕ) (k : Stock) (ds : List Deed) → length file ≡ y.table.length → k.marks ≡ [] → k.bytes ≡ []
+pub own_run : (y : Layout) (number : ℕ) (file : List ℕ) (k : Stock) (ds : List Request) → length file ≡ y.table.length → k.marks ≡ [] → k.bytes ≡ []
     → (let s : State = after_all (opened_state y number file k) ds in
-    (are_ours s.book s.stock ≡ true) × (length s.file ≡ y.table.length))
-ours_run y number file k ds e a b =
+    (are_own s.book s.stock ≡ true) × (length s.file ≡ y.table.length))
+own_run y number file k ds e a b =
     let l : Lawful y.table (length file) = subst (Lawful y.table) (sym e) (lawful y) in
-    stands_ours y number k.most_marks k.most_bytes file l e _ _
-    (all_stand_lem y number k.most_marks k.most_bytes file l e ds (opened_state y number file k) []
+    after_own y number k.most_marks k.most_bytes file l e _ _
+    (after_all_lem y number k.most_marks k.most_bytes file l e ds (opened_state y number file k) []
     (opened y number k.most_marks k.most_bytes file l e k a b refl refl))
 
 -- what holds of every stroke ever laid holds of those that stand
@@ -197,7 +197,7 @@ standing_all P t opening (e ∷ h) a = go (standing_all P t opening h) e.call e.
     Before : Type 0
     Before = All P (ever_laid t opening h) → All P (standing t opening h)
 
-    go : Before → (d : Deed) (r : Result ℕ Refusal) → All P (laid_after opening (out_in t h) (standing t opening h) (ever_laid t opening h) d r)
+    go : Before → (d : Request) (r : Result ℕ Refusal) → All P (laid_after opening (out_in t h) (standing t opening h) (ever_laid t opening h) d r)
         → All P (standing_after opening (out_in t h) (standing t opening h) d r)
     go before d (Err x) b = before b
     go before (lend p who) (Ok k) b = before b

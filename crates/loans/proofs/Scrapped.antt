@@ -8,18 +8,18 @@ use Rattle.std.proofs.lemmas.Bool.{not_from_true, cond-false, and_parts, and_fro
 use Rattle.loans.specs.declared.loan.Loan.{Loan}
 use Rattle.loans.specs.declared.mark.Mark.{Mark}
 use Rattle.loans.specs.Lists.{less_all}
-use Rattle.loans.specs.Books.{no_loan}
-use Rattle.loans.specs.Jobs.{Book, Orderly}
-use Rattle.loans.specs.Stocks.{Stock, is_number, is_out, the_loan, of_loan, lengths, lies_in, is_sound, all_sound, are_ours}
+use Rattle.loans.specs.Ledgers.{no_loan}
+use Rattle.loans.specs.Books.{Book, Orderly}
+use Rattle.loans.specs.Stocks.{Stock, is_number, is_out, the_loan, of_loan, lengths, lies_in, is_sound, all_sound, are_own}
 use Rattle.loans.specs.Strokes.{State, state_of, is_other_length, counted_loan}
-use Rattle.loans.specs.Ending.{bytes_of, stock_without, restored, InFile, cancel_refusal, cancelled, all_cancelled}
-use Rattle.loans.specs.Finding.{StandsAt}
-use Rattle.loans.specs.Rules.Deed.{cancel}
+use Rattle.loans.specs.LoanEnds.{bytes_of, stock_without, restored, InFile, cancel_refusal, cancelled, all_cancelled}
+use Rattle.loans.specs.steps.Finding.{IsAt}
+use Rattle.loans.specs.Rules.Request.{cancel}
 use Rattle.loans.specs.Calls.{Called}
-use Rattle.loans.specs.Scrapping.{AtHome}
-use Rattle.loans.proofs.Allowed.{ours}
+use Rattle.loans.specs.Scrapping.{WithOwn}
+use Rattle.loans.proofs.Allowed.{own_shelves}
 use Rattle.loans.proofs.Marks.{lengths_cons}
-use Rattle.loans.proofs.Slots.{stands_first}
+use Rattle.loans.proofs.Slots.{first_is_at}
 use Rattle.loans.proofs.Ended.{less_here}
 use Rattle.loans.proofs.Undone.{marks_in_file}
 use Rattle.loans.proofs.Outs.{out_less, loan_less, out_counted, loan_counted, all_counted_lem}
@@ -76,14 +76,14 @@ restored_length n f (m ∷ ms) ks h inside =
     go false e g i = e
 
 -- after a cancel on the job's own file and shelves these are still its own
-pub still_home : (s : State) (n : ℕ) → AtHome s → InFile (length s.file) s.stock.marks → AtHome (cancelled s n)
-still_home s n home inside =
-    let o = ours s.book s.stock home.ours in
+pub still_own : (s : State) (n : ℕ) → WithOwn s → InFile (length s.file) s.stock.marks → WithOwn (cancelled s n)
+still_own s n own inside =
+    let o = own_shelves s.book s.stock own.own_shelves in
     let k = stock_without s.stock n in
     let ls = map (counted_loan k.marks) (less_all (is_number n) s.book.outs) in
     record {
-      sized = restored_length n s.file s.stock.marks s.stock.bytes (omega (arith, o.covered)) inside ∙ home.sized;
-      ours =
+      sized = restored_length n s.file s.stock.marks s.stock.bytes (omega (arith, o.covered)) inside ∙ own.sized;
+      own_shelves =
           and_from _ _ (and_from _ _ (eq-eqb (length k.marks) _ refl) (eq-eqb (length k.bytes) _ refl))
           (and_from _ _ (all_counted_lem k.marks (less_all (is_number n) s.book.outs))
           (and_from _ _ (all_sound_less s.book.outs k.marks n s.stock.marks o.sound)
@@ -97,7 +97,7 @@ counted_cancelled ms (l ∷ ls) s = counted_cancelled ms ls (cancelled s l.numbe
 
 -- while loans are cancelled: file and shelves are the job's, and cancelling those left gives what cancelling all gives
 pub record Cancelling (s₀ s : State) : Type 0 where
-  pub home : AtHome s
+  pub own : WithOwn s
   pub rest : all_cancelled s.book.outs s ≡ all_cancelled s₀.book.outs s₀
 
 module _ (s₀ : State) (s : Book) (orderly : Orderly s) (f : List ℕ) (v : Stock) (c : Cancelling s₀ (state_of s f v)) (some : 0 < length s.outs) (n : ℕ)
@@ -105,23 +105,23 @@ module _ (s₀ : State) (s : Book) (orderly : Orderly s) (f : List ℕ) (v : Sto
   abbrev ls : List Loan
   ls = s.outs
 
-  stands : StandsAt ls n 0
-  stands = stands_first ls n 0 some (λ j h. absurd (omega arith)) (sym first)
+  is_at : IsAt ls n 0
+  is_at = first_is_at ls n 0 some (λ j h. absurd (omega arith)) (sym first)
 
   left_is : less_all (is_number n) ls ≡ drop 1 ls
-  left_is = less_here ls n 0 orderly.rising stands
+  left_is = less_here ls n 0 orderly.rising is_at
 
   all_is : ls ≡ get_or ls 0 no_loan ∷ drop 1 ls
   all_is = drop_more ls 0 no_loan some
 
   none : cancel_refusal (state_of s f v) n ≡ None
   none =
-      cond-false (is_other_length (state_of s f v)) _ _ (not_from_true _ (eq-eqb _ _ c.home.sized))
-      ∙ cond-false (not (is_out ls n)) _ _ (not_from_true _ stands.out) ∙ cond-false (not (are_ours s v)) _ _ (not_from_true _ c.home.ours)
+      cond-false (is_other_length (state_of s f v)) _ _ (not_from_true _ (eq-eqb _ _ c.own.sized))
+      ∙ cond-false (not (is_out ls n)) _ _ (not_from_true _ is_at.out) ∙ cond-false (not (are_own s v)) _ _ (not_from_true _ c.own.own_shelves)
 
   next : Cancelling s₀ (cancelled (state_of s f v) n)
   next = record {
-    home = still_home (state_of s f v) n c.home (subst (λ k. InFile k v.marks) (sym c.home.sized) (marks_in_file s orderly v c.home.ours));
+    own = still_own (state_of s f v) n c.own (subst (λ k. InFile k v.marks) (sym c.own.sized) (marks_in_file s orderly v c.own.own_shelves));
     rest =
         counted_cancelled (stock_without v n).marks (less_all (is_number n) ls) (cancelled (state_of s f v) n)
         ∙ ap (λ (xs : List Loan). all_cancelled xs (cancelled (state_of s f v) n)) left_is

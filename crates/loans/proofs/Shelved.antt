@@ -11,8 +11,8 @@ use Rattle.loans.specs.declared.mark.Mark.{Mark}
 use Rattle.loans.specs.Lists.{less_first, less_all}
 use Rattle.loans.specs.Stocks.{is_out, of_loan, marks_of, lengths}
 use Rattle.loans.specs.Strokes.{stock_with, marks_less, bytes_less, file_back, undone_stock}
-use Rattle.loans.specs.Ending.{bytes_of, restored}
-use Rattle.loans.specs.History.{Stroke, stroke_of, stroke_length, byte_under, bytes_under, undoable, mark_of, shelved}
+use Rattle.loans.specs.LoanEnds.{bytes_of, restored}
+use Rattle.loans.specs.Journals.{Stroke, stroke_of, stroke_length, byte_under, bytes_under, undoable, mark_of, shelved}
 use Rattle.loans.proofs.Listed.{all_right, all_reverse, None, Split, split, none_head, none_tail, some_of_none, some_of_mid, some_of_map, less_all_none, less_all_first, all_less_first, split_less}
 use Rattle.loans.proofs.Marks.{marks_cons, lengths_cons}
 use Rattle.loans.proofs.Underneath.{pasted, between_values, covers_from, covers_not}
@@ -124,9 +124,9 @@ lengths_is (s ∷ ss) z =
 abbrev pub Fewer : List Stroke → List Stroke → Type 0
 Fewer v w = (length v ≤ length w) × (length (all_below v) ≤ length (all_below w))
 
-pub fewer_kept : (p : Stroke → Bool) (ss : List Stroke) → Fewer (filter p ss) ss
-fewer_kept p [] = (omega arith, omega arith)
-fewer_kept p (s ∷ ss) = go (p s) (fewer_kept p ss)
+pub fewer_filter : (p : Stroke → Bool) (ss : List Stroke) → Fewer (filter p ss) ss
+fewer_filter p [] = (omega arith, omega arith)
+fewer_filter p (s ∷ ss) = go (p s) (fewer_filter p ss)
   where
     go : (b : Bool) → Fewer (filter p ss) ss → Fewer (cond b (s ∷ filter p ss) (filter p ss)) (s ∷ ss)
     go true r = (omega arith, omega (arith, length-append s.below (all_below (filter p ss)), length-append s.below (all_below ss)))

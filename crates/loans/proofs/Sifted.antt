@@ -10,9 +10,9 @@ use Rattle.loans.specs.declared.mark.Mark.{Mark}
 use Rattle.loans.specs.declared.amount.Amount.{Amount}
 use Rattle.loans.specs.Lists.{less_all}
 use Rattle.loans.specs.Stocks.{Stock, of_loan, lengths}
-use Rattle.loans.specs.Taking.{no_mark}
-use Rattle.loans.specs.Ending.{bytes_of, stock_without}
-use Rattle.loans.specs.Sifting.{Leads, CanSlide, stock_slid}
+use Rattle.loans.specs.steps.Taking.{no_mark}
+use Rattle.loans.specs.LoanEnds.{bytes_of, stock_without}
+use Rattle.loans.specs.steps.Sifting.{Leads, CanSlide, stock_slid}
 use Rattle.loans.proofs.Listed.{less_all_none}
 use Rattle.loans.proofs.Marks.{lengths_cons, lengths_append}
 use Rattle.loans.proofs.Searches.{none_all}
@@ -87,14 +87,14 @@ module _ {old st : Stock} {n : ℕ} {passed stays : Amount} (s : Sifted old st n
   begin_more : passed.bytes + run.bytes ≡ lengths (take (passed.marks + run.marks) old.marks)
   begin_more = sym (ap lengths more ∙ lengths_append (take passed.marks old.marks) run_marks ∙ omega (arith, s.begin, bytes, ap lengths run_is))
 
-  pub stands : passed.bytes + run.bytes ≤ length st.bytes
-  stands =
+  pub is_at : passed.bytes + run.bytes ≤ length st.bytes
+  is_at =
       let all = ap lengths (sym (take-append-drop (passed.marks + run.marks) old.marks)) in
       let split = lengths_append (take (passed.marks + run.marks) old.marks) (drop (passed.marks + run.marks) old.marks) in
       omega (arith, begin_more, all, split, covered, s.bytes_count)
 
   pub can_slide : CanSlide st passed run stays
-  can_slide = record { marks = omega (arith, inside_old, s.marks_count); bytes = stands; marks_down = s.marks_low; bytes_down = s.bytes_low }
+  can_slide = record { marks = omega (arith, inside_old, s.marks_count); bytes = is_at; marks_down = s.marks_low; bytes_down = s.bytes_low }
 
   behind : {X : Type 0} (at k : ℕ) (xs ys : List X) → drop at xs ≡ drop at ys → drop (at + k) xs ≡ drop (at + k) ys
   behind at k xs ys e = sym (drop-drop k at xs) ∙ ap (drop k) e ∙ drop-drop k at ys

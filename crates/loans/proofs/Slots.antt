@@ -5,9 +5,9 @@ use Rattle.std.proofs.lemmas.List.{get_or-take}
 use Rattle.std.proofs.lemmas.List.Sums.{fails_before_first, passes_at_first}
 use Rattle.std.proofs.lemmas.Bool.{or_from, cases_lt, cond-true, cond-false, lt-ltb, le-ltb, eqb-true, eqb-false, eq-eqb, ne_eqb}
 use Rattle.loans.specs.declared.loan.Loan.{Loan}
-use Rattle.loans.specs.Books.{no_loan}
+use Rattle.loans.specs.Ledgers.{no_loan}
 use Rattle.loans.specs.Stocks.{is_number}
-use Rattle.loans.specs.Finding.{StandsAt, Found}
+use Rattle.loans.specs.steps.Finding.{IsAt, Found}
 use Rattle.loans.proofs.Searches.{first_at}
 
 -- none of the loans has the number, where none at any position has
@@ -17,9 +17,9 @@ none_has (l ∷ ls) n h =
     or_from (is_number n l) (list_any (is_number n) ls) (ne_eqb n l.number (λ e. h 0 (omega arith) (sym e))) (none_has ls n (λ j f. h (suc j) (omega arith)))
 
 -- the first that has the number
-pub stands_first : (ls : List Loan) (n k : ℕ) → k < length ls → ((j : ℕ) → j < k → (get_or ls j no_loan).number ≢ n) → (get_or ls k no_loan).number ≡ n
-    → StandsAt ls n k
-stands_first ls n k inside before here =
+pub first_is_at : (ls : List Loan) (n k : ℕ) → k < length ls → ((j : ℕ) → j < k → (get_or ls j no_loan).number ≢ n) → (get_or ls k no_loan).number ≡ n
+    → IsAt ls n k
+first_is_at ls n k inside before here =
     let none = none_has (take k ls) n (λ j h. let h' : j < k = omega (arith, length-take-le k ls (omega arith)) in
     subst (λ (x : Loan). x.number ≢ n) (sym (get_or-take k ls j no_loan h')) (before j h')) in
     let first = first_at (is_number n) no_loan no_loan ls k inside none (eq-eqb n _ (sym here)) in
@@ -41,7 +41,7 @@ module _ (ls : List Loan) (n : ℕ) where
       ⊎_elim
       (λ (inside : k < length ls).
       subst (Found ls n) (sym (e ∙ cond-true _ _ _ (lt-ltb k (length ls) inside)))
-      (stands_first ls n k inside before (eqb-true _ _ (passes_at_first has ls no_loan inside))))
+      (first_is_at ls n k inside before (eqb-true _ _ (passes_at_first has ls no_loan inside))))
       (λ (past : length ls ≤ k).
       subst (Found ls n) (sym (e ∙ cond-false _ _ _ (le-ltb k (length ls) past))) (none_has ls n (λ j h. before j (omega arith))))
       (cases_lt k (length ls))

@@ -7,7 +7,7 @@ use Rattle.std.proofs.lemmas.List.FromFn.{get_or-map-range_with_len}
 use Rattle.std.proofs.lemmas.Bool.{eqb-true, eqb-false, cases_Bool}
 use Rattle.loans.specs.declared.loan.Loan.{Loan}
 use Rattle.loans.specs.Stocks.{is_out}
-use Rattle.loans.specs.History.{Stroke, covers, stroke_of, stroke_length, byte_under, bytes_under}
+use Rattle.loans.specs.Journals.{Stroke, covers, stroke_of, stroke_length, byte_under, bytes_under}
 use Rattle.loans.proofs.Listed.{all_right, all_without, all_both, None, none_head, none_tail}
 use Rattle.loans.proofs.Underneath.{same_values, pasted, covers_from, covers_not, byte_without, byte_past}
 

@@ -13,14 +13,14 @@ use Rattle.dds.specs.Places.{exists_in, area_in}
 use Rattle.loans.specs.declared.loan.Loan.{Loan}
 use Rattle.loans.specs.declared.mark.Mark.{Mark}
 use Rattle.loans.specs.Lists.{less_first, less_all}
-use Rattle.loans.specs.Jobs.{Book}
+use Rattle.loans.specs.Books.{Book}
 use Rattle.loans.specs.Lending.{granting, piece_is_out, loan_refusal}
-use Rattle.loans.specs.Stocks.{Stock, is_number, is_out, the_loan, marks_of, are_ours}
+use Rattle.loans.specs.Stocks.{Stock, is_number, is_out, the_loan, marks_of, are_own}
 use Rattle.loans.specs.Strokes.{State, Painting, counted_loan, recounted, is_other_length, is_outside_row, lacks_space, stroke_place, stock_with, paint_refusal, undo_refusal}
-use Rattle.loans.specs.Ending.{stock_without, book_without, keep_refusal, cancel_refusal}
+use Rattle.loans.specs.LoanEnds.{stock_without, book_without, keep_refusal, cancel_refusal}
 use Rattle.loans.specs.Rules.{carried_out}
-use Rattle.loans.specs.Rules.Deed.{lend, paint, undo, keep, cancel}
-use Rattle.loans.specs.History.{Stroke, stroke_of, laying, bytes_under, undoable, mark_of, shelved}
+use Rattle.loans.specs.Rules.Request.{lend, paint, undo, keep, cancel}
+use Rattle.loans.specs.Journals.{Stroke, stroke_of, laying, bytes_under, undoable, mark_of, shelved}
 use Rattle.loans.specs.Law.{InRow}
 use Rattle.loans.proofs.Listed.{Split, split, None as NoneOf}
 use Rattle.loans.proofs.Lawful.{Lawful}
@@ -28,19 +28,19 @@ use Rattle.loans.proofs.Passing.{passed}
 use Rattle.loans.proofs.Soundness.{Sized}
 use Rattle.loans.proofs.Shelved.{all_below, undoable_all, count_none, count_no, paint_file, paint_stock, undo_stock, undo_file, cancel_file}
 use Rattle.loans.proofs.Outs.{out_counted, loan_counted, piece_counted, recounted_again, recounted_without, end_stock, undoable_cancelled, numbered_known, one_less}
-use Rattle.loans.proofs.Good.{Laid, Good, all_sized, all_even, rows_old, undoable_lent, good_lent, laying_laid, laying_row, good_paint, good_undo, good_keep, good_cancel}
-use Rattle.loans.proofs.Ours.{plain_book, state_of, told_by}
+use Rattle.loans.proofs.Invariant.{Laid, Invariant, all_sized, all_even, rows_old, undoable_lent, invariant_lent, laying_laid, laying_row, invariant_paint, invariant_undo, invariant_keep, invariant_cancel}
+use Rattle.loans.proofs.Own.{plain_book, state_of, replayed_by}
 
 -- the invariant, with every stroke ever laid and the counts of keeps and cancels
-pub record Fine (t : Table) (mm mb : ℕ) (opening : List ℕ) (ls os : List Loan) (keeps cancels : ℕ) (ss old : List Stroke) : Type 0 where
-  pub good : Good t mm mb opening ls os ss
+pub record WholeInvariant (t : Table) (mm mb : ℕ) (opening : List ℕ) (ls os : List Loan) (keeps cancels : ℕ) (ss old : List Stroke) : Type 0 where
+  pub invariant : Invariant t mm mb opening ls os ss
   pub rows : All (InRow ls) old
   pub balance : length ls ≡ keeps + cancels + length os
 
 -- what a call leaves
 pub record Next (y : Layout) (number mm mb : ℕ) (opening : List ℕ) (s : State) (ls os : List Loan) (keeps cancels : ℕ) (ss old : List Stroke) : Type 0 where
-  pub state : s ≡ told_by y number mm mb opening ls os keeps cancels ss
-  pub fine : Fine y.table mm mb opening ls os keeps cancels ss old
+  pub state : s ≡ replayed_by y number mm mb opening ls os keeps cancels ss
+  pub whole : WholeInvariant y.table mm mb opening ls os keeps cancels ss old
 
 -- file and shelves changed, and the book counted anew
 changed : (b : Book) (before : Stock) (file file' : List ℕ) (k k' : Stock) → file ≡ file' → k ≡ k'
@@ -50,12 +50,12 @@ changed b before file file' k k' e f =
     ∙ ap (λ (x : Book). let s : State = record { book = x; file = file'; stock = k' } in s) (recounted_again b before k')
 
 module _ (y : Layout) (number mm mb : ℕ) (opening : List ℕ) (ls os : List Loan) (keeps cancels : ℕ) (ss old : List Stroke)
-    (lawful : Lawful y.table (length opening)) (fine : Fine y.table mm mb opening ls os keeps cancels ss old) where
+    (lawful : Lawful y.table (length opening)) (whole : WholeInvariant y.table mm mb opening ls os keeps cancels ss old) where
   abbrev t : Table
   t = y.table
 
   abbrev here : State
-  here = told_by y number mm mb opening ls os keeps cancels ss
+  here = replayed_by y number mm mb opening ls os keeps cancels ss
 
   abbrev shelf : List Mark
   shelf = map mark_of (undoable os ss)
@@ -84,7 +84,7 @@ module _ (y : Layout) (number mm mb : ℕ) (opening : List ℕ) (ls os : List Lo
       let a = passed (is_other_length here) _ _ e in
       let b = passed (not (is_out here.book.outs p.loan)) _ _ a.1 in
       let c = passed (not (eqb (the_loan here.book.outs p.loan).borrower p.borrower)) _ _ b.1 in
-      let d = passed (not (are_ours here.book here.stock)) _ _ c.1 in
+      let d = passed (not (are_own here.book here.stock)) _ _ c.1 in
       let f = passed (is_outside_row (the_loan here.book.outs p.loan).area p) _ _ d.1 in
       let g = passed (lacks_space here.stock (length p.laid)) _ _ f.1 in
       let r : Area = (the_loan os p.loan).area in
@@ -115,7 +115,7 @@ module _ (y : Layout) (number mm mb : ℕ) (opening : List ℕ) (ls os : List Lo
       let a = passed (is_other_length here) _ _ e in
       let b = passed (not (is_out here.book.outs n)) _ _ a.1 in
       let c = passed (not (eqb (the_loan here.book.outs n).borrower who)) _ _ b.1 in
-      let d = passed (not (are_ours here.book here.stock)) _ _ c.1 in
+      let d = passed (not (are_own here.book here.stock)) _ _ c.1 in
       let f = passed (eqb (marks_of n shelf) 0) _ _ d.1 in
       (out_says n b.0, eqb-false _ 0 f.0)
 
@@ -133,7 +133,7 @@ module _ (y : Layout) (number mm mb : ℕ) (opening : List ℕ) (ls os : List Lo
       count_none (length ls + 1) (undoable os ss)
       (undoable_all os (λ s. stroke_of (length ls + 1) s ≡ false) ss
       (All-weaker (Laid opening ls) (λ s. stroke_of (length ls + 1) s ≡ false)
-      (λ s r. let a = numbered_known ls s.painting.loan fine.good.numbers r.inside.lent in ne_eqb (length ls + 1) s.painting.loan (λ e. omega arith)) ss fine.good.laid))
+      (λ s r. let a = numbered_known ls s.painting.loan whole.invariant.numbers r.inside.lent in ne_eqb (length ls + 1) s.painting.loan (λ e. omega arith)) ss whole.invariant.laid))
 
   pub step_lend : (p : Piece) (who : ℕ) → loan_refusal here.book p ≡ None
       → (let new : Loan = granting (length ls + 1) p who (area_in t p) in
@@ -149,7 +149,7 @@ module _ (y : Layout) (number mm mb : ℕ) (opening : List ℕ) (ls os : List Lo
       let outs' : map (counted_loan shelf) os ++ new ∷ [] ≡ map (counted_loan shelf) (os ++ new ∷ []) =
       ap (λ (l : Loan). map (counted_loan shelf) os ++ l ∷ []) counted ∙ sym (map_push (counted_loan shelf) os new) in
       let pushed = length-append os (new ∷ []) in
-      let sum = fine.balance in
+      let sum = whole.balance in
       record {
         state =
             (λ i. record {
@@ -167,10 +167,10 @@ module _ (y : Layout) (number mm mb : ℕ) (opening : List ℕ) (ls os : List Lo
               stock = k;
             })
             ∙ ap (λ (v : List Stroke). state_of (plain_book y number (new ∷ ls) (os ++ new ∷ []) keeps cancels) file' (shelved mm mb v))
-            (sym (undoable_lent t mm mb opening ls os ss fine.good p who h.0 h.1));
-        fine = record {
-          good = good_lent t mm mb opening ls os ss fine.good p who h.0 h.1;
-          rows = rows_old ls fine.good.numbers new refl old fine.rows;
+            (sym (undoable_lent t mm mb opening ls os ss whole.invariant p who h.0 h.1));
+        whole = record {
+          invariant = invariant_lent t mm mb opening ls os ss whole.invariant p who h.0 h.1;
+          rows = rows_old ls whole.invariant.numbers new refl old whole.rows;
           balance = omega arith;
         };
       }
@@ -188,18 +188,18 @@ module _ (y : Layout) (number mm mb : ℕ) (opening : List ℕ) (ls os : List Lo
   step_paint p e =
       let h = paint_says p e in
       let stroke : Stroke = laying opening os ss p in
-      let laid = laying_laid t mm mb opening ls os ss fine.good lawful p h.out h.some h.low h.short in
+      let laid = laying_laid t mm mb opening ls os ss whole.invariant lawful p h.out h.some h.low h.short in
       record {
         state =
             ap (laid_in p) (loan_counted shelf (λ l. l.area) (λ l. refl) os p.loan)
             ∙ changed (plain_book y number ls os keeps cancels) here.stock _ _ _ _
             (paint_file os opening stroke ss laid.sized.1) (paint_stock os mm mb opening stroke ss h.out refl laid.sized.1);
-        fine = record {
-          good = good_paint t mm mb opening ls os ss fine.good lawful p h.out h.some h.low h.short h.one_more h.more;
+        whole = record {
+          invariant = invariant_paint t mm mb opening ls os ss whole.invariant lawful p h.out h.some h.low h.short h.one_more h.more;
           rows =
               All-cons (InRow ls) stroke old
-              (laying_row t mm mb opening ls os ss fine.good lawful p h.out h.some h.low h.short h.whose) fine.rows;
-          balance = fine.balance;
+              (laying_row t mm mb opening ls os ss whole.invariant lawful p h.out h.some h.low h.short h.whose) whole.rows;
+          balance = whole.balance;
         };
       }
 
@@ -211,13 +211,13 @@ module _ (y : Layout) (number mm mb : ℕ) (opening : List ℕ) (ls os : List Lo
       out = (undo_says n who e).0
 
       sized : All (Sized opening) ss
-      sized = all_sized opening ls ss fine.good.laid
+      sized = all_sized opening ls ss whole.invariant.laid
 
       go : Split (stroke_of n) ss ⊎ NoneOf (stroke_of n) ss → Next y number mm mb opening (carried_out here (undo n who)) ls os keeps cancels (less_first (stroke_of n) ss) old
       go (inr none) = absurd ((undo_says n who e).1 (count_no os opening n out ss none))
       go (inl s) = record {
-        state = changed (plain_book y number ls os keeps cancels) here.stock _ _ _ _ (undo_file os opening n out ss s fine.good.sound sized) (undo_stock os opening n out mm mb ss s sized);
-        fine = record { good = good_undo t mm mb opening ls os ss fine.good n out s; rows = fine.rows; balance = fine.balance };
+        state = changed (plain_book y number ls os keeps cancels) here.stock _ _ _ _ (undo_file os opening n out ss s whole.invariant.sound sized) (undo_stock os opening n out mm mb ss s sized);
+        whole = record { invariant = invariant_undo t mm mb opening ls os ss whole.invariant n out s; rows = whole.rows; balance = whole.balance };
       }
 
   -- a loan that ended, by a book and shelves that are the same in other words
@@ -233,23 +233,23 @@ module _ (y : Layout) (number mm mb : ℕ) (opening : List ℕ) (ls os : List Lo
       → Next y number mm mb opening (carried_out here (keep n)) ls (less_all (is_number n) os) (keeps + 1) cancels ss old
   step_keep n e =
       let out = keep_says n e in
-      let one = one_less n os fine.good.once out in
-      let sum = fine.balance in
+      let one = one_less n os whole.invariant.once out in
+      let sum = whole.balance in
       record {
-        state = ended n 1 0 (keeps + 1) cancels _ _ _ refl (omega arith) refl (end_stock mm mb os n ss (all_even t mm mb opening ls os ss fine.good));
-        fine = record { good = good_keep t mm mb opening ls os ss fine.good n; rows = fine.rows; balance = omega arith };
+        state = ended n 1 0 (keeps + 1) cancels _ _ _ refl (omega arith) refl (end_stock mm mb os n ss (all_even t mm mb opening ls os ss whole.invariant));
+        whole = record { invariant = invariant_keep t mm mb opening ls os ss whole.invariant n; rows = whole.rows; balance = omega arith };
       }
 
   pub step_cancel : (n : ℕ) → cancel_refusal here n ≡ None
       → Next y number mm mb opening (carried_out here (cancel n)) ls (less_all (is_number n) os) keeps (cancels + 1) (less_all (stroke_of n) ss) old
   step_cancel n e =
       let out = cancel_says n e in
-      let one = one_less n os fine.good.once out in
-      let sum = fine.balance in
-      let gone = (cancel_file os opening n out _ ss refl fine.good.sound (all_sized opening ls ss fine.good.laid)).0 in
+      let one = one_less n os whole.invariant.once out in
+      let sum = whole.balance in
+      let gone = (cancel_file os opening n out _ ss refl whole.invariant.sound (all_sized opening ls ss whole.invariant.laid)).0 in
       record {
         state =
             ended n 0 1 keeps (cancels + 1) _ _ _ (omega arith) refl gone
-            (end_stock mm mb os n ss (all_even t mm mb opening ls os ss fine.good) ∙ ap (shelved mm mb) (sym (undoable_cancelled os n ss)));
-        fine = record { good = good_cancel t mm mb opening ls os ss fine.good n out; rows = fine.rows; balance = omega arith };
+            (end_stock mm mb os n ss (all_even t mm mb opening ls os ss whole.invariant) ∙ ap (shelved mm mb) (sym (undoable_cancelled os n ss)));
+        whole = record { invariant = invariant_cancel t mm mb opening ls os ss whole.invariant n out; rows = whole.rows; balance = omega arith };
       }

@@ -6,10 +6,10 @@ use Rattle.refusal.specs.declared.Refusal.TheVariants.{OtherLength, ForeignShelv
 use Rattle.refusal.specs.Numbers.{number_of}
 use Rattle.dds.specs.Places.{exists_in}
 use Rattle.loans.specs.Lending.{piece_is_out}
-use Rattle.loans.specs.Stocks.{is_out, the_loan, marks_of, are_ours}
+use Rattle.loans.specs.Stocks.{is_out, the_loan, marks_of, are_own}
 use Rattle.loans.specs.Strokes.{State, is_other_length, is_outside_row, lacks_space}
-use Rattle.loans.specs.Rules.{Deed, call_refusal, refusal_or}
-use Rattle.loans.specs.Rules.Deed.{lend, paint, undo, keep, cancel}
+use Rattle.loans.specs.Rules.{Request, call_refusal, refusal_or}
+use Rattle.loans.specs.Rules.Request.{lend, paint, undo, keep, cancel}
 
 -- a refusal's number, and 0 where nothing is refused
 abbrev numbered : Option Refusal → ℕ
@@ -30,11 +30,11 @@ tested true d x f h = f
 tested false d x f h = h
 
 -- whose file and shelves are the job's own
-module _ (s : State) (same : is_other_length s ≡ false) (ours : are_ours s.book s.stock ≡ true) where
-  not_foreign : not (are_ours s.book s.stock) ≡ false
-  not_foreign = not_from_true _ ours
+module _ (s : State) (same : is_other_length s ≡ false) (own_shelves : are_own s.book s.stock ≡ true) where
+  not_foreign : not (are_own s.book s.stock) ≡ false
+  not_foreign = not_from_true _ own_shelves
 
-  pub not_anothers : (d : Deed) → NotAnothers (call_refusal s d)
+  pub not_anothers : (d : Request) → NotAnothers (call_refusal s d)
   not_anothers (lend p who) =
       tested (not (exists_in s.book.layout.table p)) _ _ (omega arith, omega arith)
       (tested (piece_is_out s.book.outs p) _ _ (omega arith, omega arith)
@@ -44,22 +44,22 @@ module _ (s : State) (same : is_other_length s ≡ false) (ours : are_ours s.boo
       not_tested (is_other_length s) OtherLength _ same
       (tested (not (is_out s.book.outs p.loan)) _ _ (omega arith, omega arith)
       (tested (not (eqb (the_loan s.book.outs p.loan).borrower p.borrower)) _ _ (omega arith, omega arith)
-      (not_tested (not (are_ours s.book s.stock)) ForeignShelves _ not_foreign
+      (not_tested (not (are_own s.book s.stock)) ForeignShelves _ not_foreign
       (tested (is_outside_row (the_loan s.book.outs p.loan).area p) _ _ (omega arith, omega arith)
       (tested (lacks_space s.stock (length p.laid)) _ _ (omega arith, omega arith) (omega arith, omega arith))))))
   not_anothers (undo n who) =
       not_tested (is_other_length s) OtherLength _ same
       (tested (not (is_out s.book.outs n)) _ _ (omega arith, omega arith)
       (tested (not (eqb (the_loan s.book.outs n).borrower who)) _ _ (omega arith, omega arith)
-      (not_tested (not (are_ours s.book s.stock)) ForeignShelves _ not_foreign
+      (not_tested (not (are_own s.book s.stock)) ForeignShelves _ not_foreign
       (tested (eqb (marks_of n s.stock.marks) 0) _ _ (omega arith, omega arith) (omega arith, omega arith)))))
   not_anothers (keep n) =
       tested (not (is_out s.book.outs n)) _ _ (omega arith, omega arith)
-      (not_tested (not (are_ours s.book s.stock)) ForeignShelves _ not_foreign (omega arith, omega arith))
+      (not_tested (not (are_own s.book s.stock)) ForeignShelves _ not_foreign (omega arith, omega arith))
   not_anothers (cancel n) =
       not_tested (is_other_length s) OtherLength _ same
       (tested (not (is_out s.book.outs n)) _ _ (omega arith, omega arith)
-      (not_tested (not (are_ours s.book s.stock)) ForeignShelves _ not_foreign (omega arith, omega arith)))
+      (not_tested (not (are_own s.book s.stock)) ForeignShelves _ not_foreign (omega arith, omega arith)))
 
 pub own_answer : (r : Option Refusal) (n : ℕ) → NotAnothers r → (refusal_or r n ≢ Err OtherLength) × (refusal_or r n ≢ Err ForeignShelves)
 own_answer None n h = (λ e. absurd cc, λ e. absurd cc)

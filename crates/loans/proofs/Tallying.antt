@@ -6,11 +6,11 @@ use Rattle.std.proofs.lemmas.List.Sums.{count_by-le-length}
 use Rattle.std.proofs.lemmas.Bool.{eqb-true, and_parts, cases_order, cond-true, cond-false, eq-eqb, ne_eqb, and_left, and_right}
 use Rattle.loans.specs.declared.loan.Loan.{Loan}
 use Rattle.loans.specs.declared.mark.Mark.{Mark}
-use Rattle.loans.specs.Books.{NumbersRise, no_loan}
+use Rattle.loans.specs.Ledgers.{NumbersRise, no_loan}
 use Rattle.loans.specs.Stocks.{marks_of, lengths, is_sound, all_sound, of_loan, all_counted}
-use Rattle.loans.specs.Finding.{StandsAt}
-use Rattle.loans.specs.Tallies.{Tally, agree}
-use Rattle.loans.specs.Taking.{no_mark}
+use Rattle.loans.specs.steps.Finding.{IsAt}
+use Rattle.loans.specs.steps.Tallies.{Tally, agree}
+use Rattle.loans.specs.steps.Taking.{no_mark}
 use Rattle.loans.proofs.Marks.{marks_from, lengths_from}
 
 pub marks_few : (n : ℕ) (ms : List Mark) → marks_of n ms ≤ length ms
@@ -73,7 +73,7 @@ module _ {ls : List Loan} {ms : List Mark} {n : ℕ} where
       pub too_long : (m.length ≤ left → ⊥) → (all_sound ls ms && eqb (lengths ms) n) ≡ false
       too_long h = and_right (all_sound ls ms) _ (ne_eqb (lengths ms) n (λ e. h (omega (arith, p.covered, length_step))))
 
-      module _ {k : ℕ} (rising : NumbersRise ls) (at : StandsAt ls m.loan k) where
+      module _ {k : ℕ} (rising : NumbersRise ls) (at : IsAt ls m.loan k) where
         -- the count at a position after one mark of the loan at k
         other : (j : ℕ) → j < length ls → j ≢ k → (get_or ls j no_loan).number ≢ m.loan
         other j h ne e =

@@ -6,18 +6,18 @@ use Rattle.std.proofs.lemmas.Bool.{false≢true, cond-true, cond-false, and_part
 use Rattle.dds.specs.declared.area.Area.{Area}
 use Rattle.loans.specs.declared.loan.Loan.{Loan}
 use Rattle.loans.specs.declared.mark.Mark.{Mark}
-use Rattle.loans.specs.Books.{no_loan, NumbersRise}
-use Rattle.loans.specs.Jobs.{Book, Orderly}
-use Rattle.loans.specs.Stocks.{Stock, is_number, is_out, the_loan, of_loan, marks_of, lengths, are_ours, is_sound, all_sound, lies_in}
+use Rattle.loans.specs.Ledgers.{no_loan, NumbersRise}
+use Rattle.loans.specs.Books.{Book, Orderly}
+use Rattle.loans.specs.Stocks.{Stock, is_number, is_out, the_loan, of_loan, marks_of, lengths, are_own, is_sound, all_sound, lies_in}
 use Rattle.loans.specs.Strokes.{State, state_of, HeldAt, undone_stock, recounted}
-use Rattle.loans.specs.Taking.{no_mark, NewestAt, file_less, stock_less, UndoAt}
-use Rattle.loans.specs.Ending.{InFile}
-use Rattle.loans.specs.Rules.Deed.{undo}
+use Rattle.loans.specs.steps.Taking.{no_mark, NewestAt, file_less, stock_less, UndoAt}
+use Rattle.loans.specs.LoanEnds.{InFile}
+use Rattle.loans.specs.Rules.Request.{undo}
 use Rattle.loans.specs.Calls.{Carried}
-use Rattle.loans.specs.Writing.{book_counted}
+use Rattle.loans.specs.steps.Writing.{book_counted}
 use Rattle.loans.proofs.Counting.{out_inside}
 use Rattle.loans.proofs.Recounting.{counted_at}
-use Rattle.loans.proofs.Allowed.{ours, may_undo}
+use Rattle.loans.proofs.Allowed.{own_shelves, may_undo}
 use Rattle.loans.proofs.Painted.{recounts}
 use Rattle.loans.proofs.Marks.{marks_cons, marks_append, lengths_cons, lengths_append}
 use Rattle.loans.proofs.Newest.{parts, undone_stock_lem, undone_file}
@@ -68,7 +68,7 @@ pub undo_at : (s : State) (n who k position begin : ℕ) → HeldAt s n who k �
 undo_at s n who k position begin held newest =
     let ls = s.book.outs in
     let v = s.stock in
-    let o = ours s.book v held.ours in
+    let o = own_shelves s.book v held.own_shelves in
     let m = get_or v.marks position no_mark in
     let some : 0 < marks_of n v.marks = omega (arith, one_less v n position begin newest n refl) in
     let lies = sound_end ls m (sound_at ls v.marks o.sound position newest.inside) in
@@ -107,9 +107,9 @@ module _ {s t : Book} {f f' : List ℕ} {v w : Stock} {n who k position begin st
 
   count_is : strokes - 1 ≡ marks_of n w.marks
   count_is =
-      let o = ours s v (may_undo st n who x.tested.none).ours in
-      let stands = x.tested.loan in
-      let before = x.before ∙ counted_at s.outs v.marks o.counted k stands.inside ∙ ap (λ y. marks_of y v.marks) stands.number in
+      let o = own_shelves s v (may_undo st n who x.tested.none).own_shelves in
+      let is_at = x.tested.loan in
+      let before = x.before ∙ counted_at s.outs v.marks o.counted k is_at.inside ∙ ap (λ y. marks_of y v.marks) is_at.number in
       let one = one_less v n position begin x.tested.newest n refl in
       let all = ap (λ (y : Stock). marks_of n y.marks) x.shelves in
       omega (arith, before, one, all)
@@ -119,7 +119,7 @@ module _ {s t : Book} {f f' : List ℕ} {v w : Stock} {n who k position begin st
 
   book_is : t ≡ recounted s w
   book_is =
-      recounts s t k n v w x.rising (may_undo st n who x.tested.none).ours x.tested.loan others (x.book ∙ ap (λ i. book_counted s k i w) count_is)
+      recounts s t k n v w x.rising (may_undo st n who x.tested.none).own_shelves x.tested.loan others (x.book ∙ ap (λ i. book_counted s k i w) count_is)
 
   pub undo_carried : Carried (undo n who) st (strokes - 1) (state_of t f' w)
   undo_carried = record {
@@ -143,10 +143,10 @@ out_somewhere (l ∷ ls) n h = go (eqb n l.number) h (out_somewhere ls n)
     go false e later = let r = later e in (suc r.0, (omega (arith, r.1.0), r.1.1))
 
 -- the marks of a job lie in a file of its length
-pub marks_in_file : (b : Book) → Orderly b → (k : Stock) → are_ours b k ≡ true → InFile b.layout.table.length k.marks
+pub marks_in_file : (b : Book) → Orderly b → (k : Stock) → are_own b k ≡ true → InFile b.layout.table.length k.marks
 marks_in_file b o k e i h =
     let m = get_or k.marks i no_mark in
-    let sound = sound_at b.outs k.marks (ours b k e).sound i h in
+    let sound = sound_at b.outs k.marks (own_shelves b k e).sound i h in
     let out = (and_parts (is_out b.outs m.loan) (lies_in (the_loan b.outs m.loan).area m) (and_parts (leb 1 m.length) _ sound).1).0 in
     let r = out_somewhere b.outs m.loan out in
     let in-file = out_inside b o r.0 r.1.0 _ r.1.1 in

@@ -11,13 +11,13 @@ use Rattle.loans.specs.declared.mark.Mark.{Mark}
 use Rattle.loans.specs.Stocks.{is_out, the_loan, marks_of}
 use Rattle.loans.specs.Strokes.{State, counted_loan}
 use Rattle.loans.specs.Rules.{answer_to}
-use Rattle.loans.specs.History.{Event, Stroke, lent, out_in, keeps_in, cancels_in, standing, ever_laid, stroke_length, byte_under, undoable, mark_of, told}
+use Rattle.loans.specs.Journals.{Event, Stroke, lent, out_in, keeps_in, cancels_in, standing, ever_laid, stroke_length, byte_under, undoable, mark_of, replayed}
 
 -- each call was answered by the rules, by what was out and stood before it
 abbrev pub Answered : Layout → ℕ → ℕ → ℕ → List ℕ → List Event → Type 0
 Answered y number most_marks most_bytes opening [] = Unit {0}
 Answered y number most_marks most_bytes opening (e ∷ h) =
-    (e.answer ≡ answer_to (told y number most_marks most_bytes opening h) e.call) × Answered y number most_marks most_bytes opening h
+    (e.answer ≡ answer_to (replayed y number most_marks most_bytes opening h) e.call) × Answered y number most_marks most_bytes opening h
 
 -- the job's own file and shelves are never taken for others
 abbrev pub TakenAsOwn : Event → Type 0

@@ -7,7 +7,7 @@ use Rattle.dds.specs.declared.area.Area.{Area}
 use Rattle.dds.specs.declared.piece.Piece.{Piece}
 use Rattle.dds.specs.Places.{exists_in, area_in}
 use Rattle.loans.specs.declared.loan.Loan.{Loan}
-use Rattle.loans.specs.Jobs.{Book}
+use Rattle.loans.specs.Books.{Book}
 
 -- two pieces are the same where element, level and slice are
 abbrev pub same_piece : Piece → Piece → Bool

@@ -8,7 +8,7 @@ use Rattle.dds.specs.Readings.{reading_of}
 use Rattle.dds.specs.Layouts.{Opened, OpenedBy}
 use Rattle.loans.specs.declared.docket.Docket.{Docket}
 use Rattle.loans.specs.declared.job.Job.{Job}
-use Rattle.loans.specs.Jobs.{fresh_book}
+use Rattle.loans.specs.Books.{fresh_book}
 
 -- how a job is opened on a file that is read so: the place holds the file's layout and no loans, whatever it held, and the docket carries
 -- the number; a refused open leaves the place as it was

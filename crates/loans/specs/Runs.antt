@@ -11,11 +11,11 @@ use Rattle.loans.specs.declared.job.Job.{Job}
 use Rattle.loans.specs.declared.shelves.Shelves.{Shelves}
 use Rattle.loans.specs.declared.run_fault.RunFault.{RunFault}
 use Rattle.loans.specs.declared.run_fault.RunFault.TheVariants.{Refused, NoRoom}
-use Rattle.loans.specs.Jobs.{fresh_book}
-use Rattle.loans.specs.Stocks.{Stock, SameRoom, are_ours}
+use Rattle.loans.specs.Books.{fresh_book}
+use Rattle.loans.specs.Stocks.{Stock, SameRoom, are_own}
 use Rattle.loans.specs.Strokes.{State, state_of}
-use Rattle.loans.specs.Rules.{Deed, answers_to, after_all}
-use Rattle.loans.specs.History.{history_of}
+use Rattle.loans.specs.Rules.{Request, answers_to, after_all}
+use Rattle.loans.specs.Journals.{journal_of}
 use Rattle.loans.specs.Law.{Law}
 
 -- a job just opened on a file, with shelves
@@ -27,12 +27,12 @@ abbrev pub is_empty : Stock → Bool
 is_empty k = length k.marks == 0 && length k.bytes == 0
 
 -- where the shelves are known to be the job's all along a list of calls, they are
-abbrev pub OursAlong : Bool → State → List Deed → Type 0
-OursAlong known s ds =
-    known ≡ true → (i : ℕ) → are_ours (after_all s (take i ds)).book (after_all s (take i ds)).stock ≡ true
+abbrev pub OwnAlong : Bool → State → List Request → Type 0
+OwnAlong known s ds =
+    known ≡ true → (i : ℕ) → are_own (after_all s (take i ds)).book (after_all s (take i ds)).stock ≡ true
 
 -- a list of calls, one after the other; their answers stand behind those that were there
-pub record AllDone (ds : List Deed) (s : State) (old : List (Result ℕ Refusal)) (t : State) (new : List (Result ℕ Refusal)) : Type 0 where
+pub record AllDone (ds : List Request) (s : State) (old : List (Result ℕ Refusal)) (t : State) (new : List (Result ℕ Refusal)) : Type 0 where
   pub answers : new ≡ old ++ answers_to s ds
   pub state : t ≡ after_all s ds
 
@@ -44,7 +44,7 @@ pub record Ordered : Type 0 where
   pub row_bytes : ℕ → ℕ → ℕ
   pub rows : ℕ → ℕ → ℕ
   pub shelves : Shelves
-  pub calls : List Deed
+  pub calls : List Request
   pub old : List (Result ℕ Refusal)
   pub room : ℕ
 
@@ -66,7 +66,7 @@ pub record RanSo (o : Ordered) (d : Docket) (t : State) (all : List (Result ℕ 
   pub state : t ≡ after_all (opened_state layout o.number o.file o.shelves) o.calls
   pub same_room : SameRoom o.shelves t.stock
   pub law : o.shelves.marks ≡ [] → o.shelves.bytes ≡ []
-      → Law layout o.number o.shelves.most_marks o.shelves.most_bytes o.file (history_of o.calls given) t
+      → Law layout o.number o.shelves.most_marks o.shelves.most_bytes o.file (journal_of o.calls given) t
 
 -- a fault as text
 abbrev pub fault_text : RunFault → List ℕ

@@ -5,15 +5,15 @@ use Rattle.loans.specs.declared.docket.Docket.{Docket}
 use Rattle.loans.specs.declared.job.Job.{Job}
 use Rattle.loans.specs.declared.report.Report.{Report}
 use Rattle.loans.specs.declared.shelves.Shelves.{Shelves}
-use Rattle.loans.specs.Jobs.{IsEmpty, report_of}
-use Rattle.loans.specs.Stocks.{are_ours}
+use Rattle.loans.specs.Books.{IsEmpty, report_of}
+use Rattle.loans.specs.Stocks.{are_own}
 use Rattle.loans.specs.Strokes.{State, state_of}
-use Rattle.loans.specs.Ending.{scrap_refusal, all_cancelled}
+use Rattle.loans.specs.LoanEnds.{scrap_refusal, all_cancelled}
 
 -- the file has the job's length, and the shelves are the job's
-pub record AtHome (s : State) : Type 0 where
+pub record WithOwn (s : State) : Type 0 where
   pub sized : length s.file ≡ s.book.layout.table.length
-  pub ours : are_ours s.book s.stock ≡ true
+  pub own_shelves : are_own s.book s.stock ≡ true
 
 -- every loan out is cancelled: the report, file and shelves are those after the cancels, and the job is emptied
 pub record ScrappedSo (d : Docket) (s : State) (report : Report) (t : State) : Type 0 where

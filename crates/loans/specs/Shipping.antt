@@ -6,7 +6,7 @@ use Rattle.loans.specs.declared.docket.Docket.{Docket}
 use Rattle.loans.specs.declared.job.Job.{Job}
 use Rattle.loans.specs.declared.report.Report.{Report}
 use Rattle.loans.specs.declared.unspent.Unspent.{Unspent}
-use Rattle.loans.specs.Jobs.{Book, IsEmpty, report_of}
+use Rattle.loans.specs.Books.{Book, IsEmpty, report_of}
 
 -- the job has that number; an empty job has none
 abbrev pub is_job_number : Option ℕ → ℕ → Bool

@@ -6,8 +6,8 @@ use Rattle.shelf.specs.Held.{Held}
 use Rattle.dds.specs.declared.area.Area.{Area}
 use Rattle.loans.specs.declared.loan.Loan.{Loan}
 use Rattle.loans.specs.declared.mark.Mark.{Mark}
-use Rattle.loans.specs.Books.{no_loan}
-use Rattle.loans.specs.Jobs.{Book}
+use Rattle.loans.specs.Ledgers.{no_loan}
+use Rattle.loans.specs.Books.{Book}
 
 -- the marks and the kept bytes, each the oldest first, and how many of them the shelves can hold
 pub record Stock : Type 0 where
@@ -89,11 +89,11 @@ all_counted ls ms = list_all (λ (l : Loan). l.strokes == marks_of l.number ms) 
 
 -- the shelves are the job's: both counts and each loan's count of marks are those that the job knows, every mark is sound, and the
 -- marks' lengths add up to the count of kept bytes. The kept values, the order of the marks and the capacities are not looked at
-abbrev pub are_ours : Book → Stock → Bool
-are_ours b k =
+abbrev pub are_own : Book → Stock → Bool
+are_own b k =
     (length k.marks == b.marks && length k.bytes == b.bytes)
     && (all_counted b.outs k.marks && (all_sound b.outs k.marks && lengths k.marks == length k.bytes))
 
 -- where the shelves are known to be the job's, they are
-abbrev pub OursWhere : Bool → Book → Stock → Type 0
-OursWhere known b k = known ≡ true → are_ours b k ≡ true
+abbrev pub OwnWhere : Bool → Book → Stock → Type 0
+OwnWhere known b k = known ≡ true → are_own b k ≡ true

@@ -1,17 +1,17 @@
 // Ending a loan: keeping or cancelling it.
 ghost use Rattle.std.specs.Prelude.{◌≡◌, ◌<◌, length};
-ghost use Rattle.loans.specs.Books.{Balanced};
-ghost use Rattle.loans.specs.Writing.{kept_by, cancelled_by, ledger_ended, book_ended};
-ghost use Rattle.loans.specs.Stocks.{lengths, OursWhere};
-ghost use Rattle.loans.specs.Ending.{restored, InFile};
-ghost use Rattle.loans.specs.Rules.Deed.{keep, cancel};
+ghost use Rattle.loans.specs.Ledgers.{Balanced};
+ghost use Rattle.loans.specs.steps.Writing.{kept_by, cancelled_by, ledger_ended, book_ended};
+ghost use Rattle.loans.specs.Stocks.{lengths, OwnWhere};
+ghost use Rattle.loans.specs.LoanEnds.{restored, InFile};
+ghost use Rattle.loans.specs.Rules.Request.{keep, cancel};
 ghost use Rattle.loans.specs.Calls.{Called, CalledOnAny};
 ghost use Rattle.loans.specs.Handed.{HandedWhere};
 
 use crate::job::Job;
 use crate::ledger::Ledger;
 use crate::mark::Mark;
-use crate::outcome::Ending;
+use crate::outcome::Outcome;
 use crate::painting::lay;
 use crate::shelves::Shelves;
 use refusal::Refusal;
@@ -34,15 +34,15 @@ fn restore(file: &mut [u8], marks: &[Mark], covered: &[u8], loan: u32)
 
 impl Ledger {
     // Takes the loan at a position out of those that are out, counts how it ended, and writes down so many marks and bytes.
-    fn end(&mut self, position: usize, ending: Ending, marks: usize, bytes: usize)
+    fn end(&mut self, position: usize, outcome: Outcome, marks: usize, bytes: usize)
         requires balanced { Balanced self.old }
         requires out { position < self.old.out }
         ensures { self.new ≡ ledger_ended self.old position
-            (kept_by ending) (cancelled_by ending) marks bytes }
+            (kept_by outcome) (cancelled_by outcome) marks bytes }
     {
-        match ending {
-            Ending::Kept => self.kept += 1,
-            Ending::Cancelled => self.cancelled += 1,
+        match outcome {
+            Outcome::Kept => self.kept += 1,
+            Outcome::Cancelled => self.cancelled += 1,
         }
         let out = self.out as usize;
         self.loans.copy_within(position + 1..out, position);
@@ -54,14 +54,14 @@ impl Ledger {
 
 impl Job {
     // Writes down how the loan at a position ended, and the counts of the shelves. Answers how many loans are still out.
-    fn end_loan(&mut self, position: usize, ending: Ending, shelves: &Shelves<'_>) -> u32
+    fn end_loan(&mut self, position: usize, outcome: Outcome, shelves: &Shelves<'_>) -> u32
         requires { position < length self.old.outs }
-        ensures book { self.new ≡ book_ended self.old position ending shelves.now }
+        ensures book { self.new ≡ book_ended self.old position outcome shelves.now }
         ensures left { result ≡ length self.new.outs }
     {
         let marks = shelves.marks().count();
         let bytes = shelves.bytes().count();
-        self.ledger.end(position, ending, marks, bytes);
+        self.ledger.end(position, outcome, marks, bytes);
         self.ledger.out
     }
 
@@ -72,7 +72,7 @@ impl Job {
         loan: u32,
         known: bool,
     ) -> Result<u32, Refusal>
-        requires { OursWhere known self.old shelves.old }
+        requires { OwnWhere known self.old shelves.old }
         ensures rule { CalledOnAny (keep loan) self.old shelves.old result self.new shelves.new }
         ensures handed { HandedWhere loan result self.new }
     {
@@ -81,7 +81,7 @@ impl Job {
             return Err(Refusal::ForeignShelves);
         }
         shelves.drop_loan(loan);
-        Ok(self.end_loan(position, Ending::Kept, shelves))
+        Ok(self.end_loan(position, Outcome::Kept, shelves))
     }
 
     // Takes back all strokes of a loan and ends it; see `cancel`.
@@ -92,7 +92,7 @@ impl Job {
         loan: u32,
         known: bool,
     ) -> Result<u32, Refusal>
-        requires { OursWhere known self.old shelves.old }
+        requires { OwnWhere known self.old shelves.old }
         ensures rule { Called (cancel loan) self.old file.old shelves.old
             result self.new file.new shelves.new }
         ensures handed { HandedWhere loan result self.new }
@@ -111,7 +111,7 @@ impl Job {
             loan,
         );
         shelves.drop_loan(loan);
-        Ok(self.end_loan(position, Ending::Cancelled, shelves))
+        Ok(self.end_loan(position, Outcome::Cancelled, shelves))
     }
 
     /// Ends a loan: its strokes stand for good, and their marks and bytes leave the shelves. Answers how many loans are still out.

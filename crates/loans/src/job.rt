@@ -12,8 +12,8 @@ pub struct Job {
 }
 
 impl Model for Job {
-    ghost use Rattle.loans.specs.Books.{InOrder};
-    ghost use Rattle.loans.specs.Jobs.{Book, book_in};
+    ghost use Rattle.loans.specs.Ledgers.{InOrder};
+    ghost use Rattle.loans.specs.Books.{Book, book_in};
 
     ghost Value = { Book };
 

@@ -1,9 +1,9 @@
 // Lending a piece.
 ghost use Rattle.std.specs.Prelude.{◌≡◌, ◌<◌};
-ghost use Rattle.loans.specs.Jobs.{Orderly};
+ghost use Rattle.loans.specs.Books.{Orderly};
 ghost use Rattle.loans.specs.Lending.{piece_is_out};
-ghost use Rattle.loans.specs.Writing.{ledger_with};
-ghost use Rattle.loans.specs.Rules.Deed.{lend};
+ghost use Rattle.loans.specs.steps.Writing.{ledger_with};
+ghost use Rattle.loans.specs.Rules.Request.{lend};
 ghost use Rattle.loans.specs.Calls.{CalledAlone};
 
 use crate::job::Job;

@@ -1,7 +1,7 @@
 // Opening a job, and asking where its pieces stand.
 ghost use Rattle.std.specs.Prelude.{◌≡◌, Option, OnOk, length};
 ghost use Rattle.dds.specs.Places.{WhereIs, where_in, WhoseIs, Shown};
-ghost use Rattle.loans.specs.Jobs.{fresh_book, IsEmpty, report_of, IsBalanced};
+ghost use Rattle.loans.specs.Books.{fresh_book, IsEmpty, report_of, IsBalanced};
 ghost use Rattle.loans.specs.Opening.{OpenedWith, OpenedWithCodes};
 
 use crate::docket::Docket;

@@ -1,7 +1,7 @@
 // How a loan ends.
 
 #[derive(Clone, Copy)]
-pub(crate) enum Ending {
+pub(crate) enum Outcome {
     Kept,
     Cancelled,
 }

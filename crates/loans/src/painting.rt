@@ -1,13 +1,13 @@
 // Laying a stroke.
 ghost use Rattle.std.specs.Prelude.{◌≡◌, ◌+◌, ◌*◌, ◌<◌, ◌≤◌, false, length, ◌==◌, slice_index_or};
 ghost use Rattle.std.proofs.Math.Seq.{paste};
-ghost use Rattle.loans.specs.Books.{no_loan, NumbersRise};
-ghost use Rattle.loans.specs.Rules.Deed.{paint};
+ghost use Rattle.loans.specs.Ledgers.{no_loan, NumbersRise};
+ghost use Rattle.loans.specs.Rules.Request.{paint};
 ghost use Rattle.loans.specs.Calls.{Called};
-ghost use Rattle.loans.specs.Writing.{book_counted};
-ghost use Rattle.loans.specs.Jobs.{Orderly};
-ghost use Rattle.loans.specs.Stocks.{Fits, OursWhere};
-ghost use Rattle.loans.specs.Finding.{Found};
+ghost use Rattle.loans.specs.steps.Writing.{book_counted};
+ghost use Rattle.loans.specs.Books.{Orderly};
+ghost use Rattle.loans.specs.Stocks.{Fits, OwnWhere};
+ghost use Rattle.loans.specs.steps.Finding.{Found};
 ghost use Rattle.loans.specs.Strokes.{state_of, Held, stock_with, painting_of, is_outside_row, lacks_space, PaintTested};
 
 use crate::job::Job;
@@ -15,7 +15,7 @@ use crate::loan::Loan;
 use crate::mark::Mark;
 use crate::searching::position_of;
 use crate::shelves::Shelves;
-use crate::target::Spot;
+use crate::target::Target;
 use dds::Area;
 use refusal::Refusal;
 
@@ -111,7 +111,7 @@ impl Job {
         borrower: u32,
         known: bool,
     ) -> Result<usize, Refusal>
-        requires { OursWhere known self.now shelves.now }
+        requires { OwnWhere known self.now shelves.now }
         ensures { Held (state_of self.now file.now shelves.now) loan borrower result }
     {
         if !self.has_length(file) {
@@ -128,14 +128,14 @@ impl Job {
     }
 
     // Where a stroke is to lie. Refuses as `held` does, then with OutsideRow or NoSpace.
-    fn spot_for(
+    fn target_for(
         &self,
         file: &[u8],
         shelves: &Shelves<'_>,
         painting: Painting<'_>,
         known: bool,
-    ) -> Result<Spot, Refusal>
-        requires { OursWhere known self.now shelves.now }
+    ) -> Result<Target, Refusal>
+        requires { OwnWhere known self.now shelves.now }
         ensures { PaintTested (state_of self.now file.now shelves.now)
             (painting_of painting.entry) result }
     {
@@ -149,7 +149,7 @@ impl Job {
         }
         let row = painting.row as u64 * loan.area.row_bytes as u64;
         let place = loan.area.place + (row + painting.first as u64);
-        Ok(Spot {
+        Ok(Target {
             position,
             place: place as usize,
         })
@@ -175,12 +175,12 @@ impl Job {
         painting: Painting<'_>,
         known: bool,
     ) -> Result<u32, Refusal>
-        requires { OursWhere known self.old shelves.old }
+        requires { OwnWhere known self.old shelves.old }
         ensures { Called (paint (painting_of painting.entry)) self.old file.old shelves.old
             result self.new file.new shelves.new }
     {
-        let spot = self.spot_for(file, shelves, painting, known)?;
-        let place = spot.place;
+        let target = self.target_for(file, shelves, painting, known)?;
+        let place = target.place;
         let length = painting.bytes.len();
         let mark = Mark {
             loan: painting.loan,
@@ -189,8 +189,8 @@ impl Job {
         };
         shelves.shelve(mark, &file[place..place + length]);
         lay(file, place, painting.bytes);
-        let strokes = self.loan_at(spot.position).strokes + 1;
-        self.count_strokes(spot.position, strokes, shelves);
+        let strokes = self.loan_at(target.position).strokes + 1;
+        self.count_strokes(target.position, strokes, shelves);
         Ok(strokes)
     }
 

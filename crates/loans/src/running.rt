@@ -1,11 +1,11 @@
 // Running a list of calls on a newly opened job.
 ghost use Rattle.std.specs.Prelude.{◌≡◌, Some, ◌+◌, ◌≤◌, IfOk, map, length, vec_len, vec_capacity};
-ghost use Rattle.loans.specs.Stocks.{SameRoom, answer_limit, OursWhere};
+ghost use Rattle.loans.specs.Stocks.{SameRoom, answer_limit, OwnWhere};
 ghost use Rattle.loans.specs.Strokes.{state_of};
-ghost use Rattle.loans.specs.Rules.{deed_of};
+ghost use Rattle.loans.specs.Rules.{request_of};
 ghost use Rattle.loans.specs.Calls.{Called};
 ghost use Rattle.loans.specs.Handed.{HandedBy};
-ghost use Rattle.loans.specs.Runs.{AllDone, OursAlong, is_empty, Ran};
+ghost use Rattle.loans.specs.Runs.{AllDone, OwnAlong, is_empty, Ran};
 
 use crate::call::{Answer, Call};
 use crate::docket::Docket;
@@ -26,10 +26,10 @@ impl Job {
         call: Call<'_>,
         known: bool,
     ) -> Result<u32, Refusal>
-        requires { OursWhere known self.old shelves.old }
-        ensures rule { Called (deed_of call.entry) self.old file.old shelves.old
+        requires { OwnWhere known self.old shelves.old }
+        ensures rule { Called (request_of call.entry) self.old file.old shelves.old
             result self.new file.new shelves.new }
-        ensures handed { HandedBy (deed_of call.entry) result self.new }
+        ensures handed { HandedBy (request_of call.entry) result self.new }
     {
         match call {
             Call::Loan { piece, borrower } => self.loan(piece, borrower),
@@ -49,9 +49,9 @@ impl Job {
         shelves: &mut Shelves<'_>,
         call: Call<'_>,
     ) -> Result<u32, Refusal>
-        ensures rule { Called (deed_of call.entry) self.old file.old shelves.old
+        ensures rule { Called (request_of call.entry) self.old file.old shelves.old
             result self.new file.new shelves.new }
-        ensures handed { HandedBy (deed_of call.entry) result self.new }
+        ensures handed { HandedBy (request_of call.entry) result self.new }
         ensures room { SameRoom shelves.old shelves.new }
         ensures limit { IfOk result (λ number. number ≤ answer_limit shelves.old) }
     {
@@ -72,9 +72,9 @@ impl Job {
         answers: &mut Vec<Answer>,
     )
         requires room { vec_len answers.old + length calls.now ≤ vec_capacity answers.old }
-        requires along { OursAlong known (state_of self.old file.old shelves.old)
-            (map deed_of calls.now) }
-        ensures { AllDone (map deed_of calls.now)
+        requires along { OwnAlong known (state_of self.old file.old shelves.old)
+            (map request_of calls.now) }
+        ensures { AllDone (map request_of calls.now)
             (state_of self.old file.old shelves.old) answers.old.items
             (state_of self.new file.new shelves.new) answers.new.items }
     {
@@ -112,7 +112,7 @@ pub fn run<F: Family>(
       row_bytes = F.row_bytes family.now;
       rows = F.rows family.now;
       shelves = shelves.old;
-      calls = map deed_of calls.now;
+      calls = map request_of calls.now;
       old = answers.old.items;
       room = vec_capacity answers.old;
     }) job.old result job.new file.new shelves.new answers.new.items }

@@ -1,9 +1,9 @@
 // Scrapping a job.
 ghost use Rattle.std.specs.Prelude.{◌≡◌, IfOk};
-ghost use Rattle.loans.specs.Jobs.{IsBalanced};
+ghost use Rattle.loans.specs.Books.{IsBalanced};
 ghost use Rattle.loans.specs.Strokes.{state_of};
-ghost use Rattle.loans.specs.Ending.{all_cancelled};
-ghost use Rattle.loans.specs.Scrapping.{AtHome, Scrapped};
+ghost use Rattle.loans.specs.LoanEnds.{all_cancelled};
+ghost use Rattle.loans.specs.Scrapping.{WithOwn, Scrapped};
 
 use crate::docket::Docket;
 use crate::job::Job;
@@ -14,7 +14,7 @@ use refusal::Refusal;
 impl Job {
     // Cancels every loan out, in the order in which they were granted.
     fn cancel_all(&mut self, file: &mut [u8], shelves: &mut Shelves<'_>)
-        requires { AtHome (state_of self.old file.old shelves.old) }
+        requires { WithOwn (state_of self.old file.old shelves.old) }
         ensures { state_of self.new file.new shelves.new
             ≡ all_cancelled self.old.outs (state_of self.old file.old shelves.old) }
     {

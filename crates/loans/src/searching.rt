@@ -1,6 +1,6 @@
 // Finding a loan by its number.
 ghost use Rattle.std.specs.Prelude.{◌≡◌};
-ghost use Rattle.loans.specs.Finding.{Found};
+ghost use Rattle.loans.specs.steps.Finding.{Found};
 
 use crate::loan::Loan;
 

@@ -1,6 +1,6 @@
 // Shipping a job.
 ghost use Rattle.std.specs.Prelude.{◌≡◌, IfErr, IfOk};
-ghost use Rattle.loans.specs.Jobs.{IsBalanced};
+ghost use Rattle.loans.specs.Books.{IsBalanced};
 ghost use Rattle.loans.specs.Shipping.{is_job_number, Shipped};
 
 use crate::docket::Docket;

@@ -1,8 +1,8 @@
 // Closing the gaps that a loan's strokes leave on the shelves.
 ghost use Rattle.std.specs.Prelude.{◌≡◌, ◌+◌, ◌^◌, ◌<◌, ◌≤◌, length, drop};
 ghost use Rattle.loans.specs.Stocks.{Fits, lengths};
-ghost use Rattle.loans.specs.Ending.{stock_without};
-ghost use Rattle.loans.specs.Sifting.{Leads, CanSlide, stock_slid};
+ghost use Rattle.loans.specs.LoanEnds.{stock_without};
+ghost use Rattle.loans.specs.steps.Sifting.{Leads, CanSlide, stock_slid};
 
 use crate::amount::Amount;
 use crate::mark::Mark;

@@ -2,7 +2,7 @@
 
 // Where a stroke is to lie: the position of its loan among the loans out, and its place in the file.
 #[derive(Clone, Copy)]
-pub(crate) struct Spot {
+pub(crate) struct Target {
     pub(crate) position: usize,
     pub(crate) place: usize,
 }

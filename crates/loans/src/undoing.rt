@@ -1,9 +1,9 @@
 // Taking a stroke back.
 ghost use Rattle.std.specs.Prelude.{◌≡◌, ◌≤◌, length};
-ghost use Rattle.loans.specs.Stocks.{lengths, OursWhere};
+ghost use Rattle.loans.specs.Stocks.{lengths, OwnWhere};
 ghost use Rattle.loans.specs.Strokes.{state_of};
-ghost use Rattle.loans.specs.Taking.{FoundNewest, file_less, stock_less, Whole, UndoTested};
-ghost use Rattle.loans.specs.Rules.Deed.{undo};
+ghost use Rattle.loans.specs.steps.Taking.{FoundNewest, file_less, stock_less, Whole, UndoTested};
+ghost use Rattle.loans.specs.Rules.Request.{undo};
 ghost use Rattle.loans.specs.Calls.{Called};
 
 use crate::job::Job;
@@ -64,7 +64,7 @@ impl Job {
         borrower: u32,
         known: bool,
     ) -> Result<Last, Refusal>
-        requires { OursWhere known self.now shelves.now }
+        requires { OwnWhere known self.now shelves.now }
         ensures { UndoTested (state_of self.now file.now shelves.now) loan borrower result }
     {
         let position = self.held(file, shelves, loan, borrower, known)?;
@@ -82,7 +82,7 @@ impl Job {
         borrower: u32,
         known: bool,
     ) -> Result<u32, Refusal>
-        requires { OursWhere known self.old shelves.old }
+        requires { OwnWhere known self.old shelves.old }
         ensures { Called (undo loan borrower) self.old file.old shelves.old
             result self.new file.new shelves.new }
     {

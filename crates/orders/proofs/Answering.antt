@@ -6,9 +6,9 @@ use Rattle.loans.specs.Strokes.{Painting, painting_on}
 use Rattle.orders.specs.declared.order.Order.{Order}
 use Rattle.orders.specs.declared.order.Order.TheVariants.{Loan, LoanElement, Paint, Undo, Keep, Cancel}
 use Rattle.orders.specs.Spelling.{letter, numbers, hex_pair, spelling}
-use Rattle.orders.specs.Spelling.Wording.{paint}
+use Rattle.orders.specs.Spelling.Instruction.{paint}
 use Rattle.orders.specs.Words.{hex_bytes}
-use Rattle.orders.specs.Orders.{as_worded}
+use Rattle.orders.specs.Orders.{instruction_of}
 use Rattle.orders.specs.Orders.{HasShortDigits}
 use Rattle.orders.proofs.Hex.{pairs_again}
 
@@ -19,7 +19,7 @@ last_within (x ∷ []) w = omega (arith, length-append x (32 ∷ w))
 last_within (x ∷ y ∷ ws) w = omega (arith, last_within (y ∷ ws) w, length-append x (32 ∷ join_with_byte 32 (y ∷ ws ++ w ∷ [])))
 
 -- the digits of an order that a line tells are no longer than the line
-pub order_fits : (line : List ℕ) (o : Order) → line ≡ spelling (as_worded o) → length line ≤ 16384 → HasShortDigits o
+pub order_fits : (line : List ℕ) (o : Order) → line ≡ spelling (instruction_of o) → length line ≤ 16384 → HasShortDigits o
 order_fits line (Loan p who) e h = tt
 order_fits line (LoanElement x who) e h = tt
 order_fits line (Paint n who r f ds) e h =

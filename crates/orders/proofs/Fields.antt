@@ -1,6 +1,6 @@
 -- A line with too few or too many words tells no order.
 use Rattle.std.proofs.Common.{◌≡◌, ℕ, List, [], ◌∷◌, length, None, ◌≢◌, refl}
-use Rattle.orders.specs.Reading.{loan_at, paint_at}
+use Rattle.orders.specs.steps.Reading.{loan_at, paint_at}
 
 pub no_loan : (ws : List (List ℕ)) → length ws ≢ 2 → length ws ≢ 4 → None ≡ loan_at ws
 no_loan [] a b = refl

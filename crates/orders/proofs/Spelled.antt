@@ -11,14 +11,14 @@ use Rattle.std.specs.List.{All, flat_map, join_with_byte, slice_split, list_all}
 use Rattle.std.specs.Option.{option_map, ok_or}
 use Rattle.dds.specs.Pieces.{piece_of}
 use Rattle.loans.specs.Strokes.{painting_on}
-use Rattle.orders.specs.Spelling.{Wording, letter, numbers, digits, words, spelling, IsOrder, hex_pair}
-use Rattle.orders.specs.Spelling.Wording.{lend, lend_element, paint, undo, keep, cancel}
+use Rattle.orders.specs.Spelling.{Instruction, letter, numbers, digits, words, spelling, IsOrder, hex_pair}
+use Rattle.orders.specs.Spelling.Instruction.{lend, lend_element, paint, undo, keep, cancel}
 use Rattle.refusal.specs.declared.Refusal.TheVariants.{MalformedOrder}
 use Rattle.orders.specs.declared.order.Order.{Order}
 use Rattle.orders.specs.Orders.{Parsed}
 use Rattle.orders.specs.Words.{value_at, hex_bytes_at, is_hex}
-use Rattle.orders.specs.Reading.{is_space, loan_at, paint_at, undo_at, only_at, with_number, order_of, by_words, order_at}
-use Rattle.orders.specs.Orders.{as_worded}
+use Rattle.orders.specs.steps.Reading.{is_space, loan_at, paint_at, undo_at, only_at, with_number, order_of, by_words, order_at}
+use Rattle.orders.specs.Orders.{instruction_of}
 use Rattle.orders.proofs.Numbers.{value_again, value_takes, decimal_digits}
 use Rattle.orders.proofs.Hex.{bytes_again, bytes_takes, all_hex}
 
@@ -59,7 +59,7 @@ numbers_unspaced : (ns : List ℕ) → All IsNumber ns → All Unspaced (map dec
 numbers_unspaced ns h =
     All-map Unspaced decimal ns (All-weaker IsNumber (λ n. Unspaced (decimal n)) (λ n small. passing is_ascii_digit digit_unspaced (decimal n) (decimal_digits n small)) ns h)
 
-digits_unspaced : (o : Wording) → IsOrder o → All Unspaced (digits o)
+digits_unspaced : (o : Instruction) → IsOrder o → All Unspaced (digits o)
 digits_unspaced (lend p who) h = All-nil Unspaced
 digits_unspaced (lend_element e who) h = All-nil Unspaced
 digits_unspaced (paint p) h = All-cons Unspaced _ [] (passing is_hex hex_unspaced (flat_map hex_pair p.laid) (all_hex p.laid h.bytes.1)) (All-nil Unspaced)
@@ -67,7 +67,7 @@ digits_unspaced (undo n who) h = All-nil Unspaced
 digits_unspaced (keep n) h = All-nil Unspaced
 digits_unspaced (cancel n) h = All-nil Unspaced
 
-letter_unspaced : (o : Wording) → is_space (letter o) ≡ false
+letter_unspaced : (o : Instruction) → is_space (letter o) ≡ false
 letter_unspaced (lend p who) = refl
 letter_unspaced (lend_element e who) = refl
 letter_unspaced (paint p) = refl
@@ -75,14 +75,14 @@ letter_unspaced (undo n who) = refl
 letter_unspaced (keep n) = refl
 letter_unspaced (cancel n) = refl
 
-words_unspaced : (o : Wording) → IsOrder o → All Unspaced (words o)
+words_unspaced : (o : Instruction) → IsOrder o → All Unspaced (words o)
 words_unspaced o h =
     All-cons Unspaced (letter o ∷ []) _ (All-cons (λ b. is_space b ≡ false) (letter o) [] (letter_unspaced o) (All-nil (λ b. is_space b ≡ false)))
     (All-append Unspaced (map decimal (numbers o)) (digits o) (numbers_unspaced (numbers o) h.numbers) (digits_unspaced o h))
 
 -- ---- what is spelled is read
 
-again : (o : Wording) → IsOrder o → by_words (words o) ≡ Some o
+again : (o : Instruction) → IsOrder o → by_words (words o) ≡ Some o
 again (lend p who) h = let n = h.numbers in rw (value_again p.element (n 0 0 (omega arith)), value_again p.level (n 1 0 (omega arith)), value_again p.slice (n 2 0 (omega arith)), value_again who (n 3 0 (omega arith))) refl
 again (lend_element e who) h = let n = h.numbers in rw (value_again e (n 0 0 (omega arith)), value_again who (n 1 0 (omega arith))) refl
 again (paint p) h =
@@ -93,7 +93,7 @@ again (keep n) h = rw (value_again n (h.numbers 0 0 (omega arith))) refl
 again (cancel n) h = rw (value_again n (h.numbers 0 0 (omega arith))) refl
 
 -- each order is read from its line
-pub order_again : (o : Wording) → IsOrder o → order_at (spelling o) ≡ Some o
+pub order_again : (o : Instruction) → IsOrder o → order_at (spelling o) ≡ Some o
 order_again o h =
     ap by_words (parts (letter o ∷ []) (map decimal (numbers o) ++ digits o) (words_unspaced o h)) ∙ again o h
 
@@ -114,13 +114,13 @@ cons_is : (x y : List ℕ) (xs ys : List (List ℕ)) → x ≡ y → xs ≡ ys �
 cons_is x y xs ys e h = ap₂ (λ (z : List ℕ) (zs : List (List ℕ)). z ∷ zs) e h
 
 -- the words of a line are those of an order
-abbrev pub WordsOf : List (List ℕ) → Wording → Type 0
+abbrev pub WordsOf : List (List ℕ) → Instruction → Type 0
 WordsOf ws o = (ws ≡ words o) × IsOrder o
 
-as_order : (ws : List (List ℕ)) (o t : Wording) → Some o ≡ Some t → WordsOf ws o → WordsOf ws t
+as_order : (ws : List (List ℕ)) (o t : Instruction) → Some o ≡ Some t → WordsOf ws o → WordsOf ws t
 as_order ws o t e h = subst (WordsOf ws) (same_Some o t e) h
 
-loan_takes : (ws : List (List ℕ)) (t : Wording) → loan_at ws ≡ Some t → WordsOf ((76 ∷ []) ∷ ws) t
+loan_takes : (ws : List (List ℕ)) (t : Instruction) → loan_at ws ≡ Some t → WordsOf ((76 ∷ []) ∷ ws) t
 loan_takes [] t h = absurd cc
 loan_takes (w ∷ []) t h = absurd cc
 loan_takes (e ∷ who ∷ []) t h =
@@ -139,7 +139,7 @@ loan_takes (e ∷ l ∷ s ∷ who ∷ []) t h =
     )
 loan_takes (w ∷ x ∷ y ∷ z ∷ u ∷ ws) t h = absurd cc
 
-paint_takes : (ws : List (List ℕ)) (t : Wording) → paint_at ws ≡ Some t → WordsOf ((80 ∷ []) ∷ ws) t
+paint_takes : (ws : List (List ℕ)) (t : Instruction) → paint_at ws ≡ Some t → WordsOf ((80 ∷ []) ∷ ws) t
 paint_takes [] t h = absurd cc
 paint_takes (w ∷ []) t h = absurd cc
 paint_takes (w ∷ x ∷ []) t h = absurd cc
@@ -158,7 +158,7 @@ paint_takes (n ∷ who ∷ r ∷ f ∷ ds ∷ []) t h =
     ))
 paint_takes (w ∷ x ∷ y ∷ z ∷ u ∷ v ∷ ws) t h = absurd cc
 
-undo_takes : (ws : List (List ℕ)) (t : Wording) → undo_at ws ≡ Some t → WordsOf ((85 ∷ []) ∷ ws) t
+undo_takes : (ws : List (List ℕ)) (t : Instruction) → undo_at ws ≡ Some t → WordsOf ((85 ∷ []) ∷ ws) t
 undo_takes [] t h = absurd cc
 undo_takes (w ∷ []) t h = absurd cc
 undo_takes (n ∷ who ∷ []) t h =
@@ -168,7 +168,7 @@ undo_takes (n ∷ who ∷ []) t h =
 undo_takes (w ∷ x ∷ y ∷ ws) t h = absurd cc
 
 -- a line of one number
-only_takes : (make : ℕ → Wording) (c : ℕ) → ((n : ℕ) → n < 2 ^ 32 → WordsOf ((c ∷ []) ∷ decimal n ∷ []) (make n)) → (ws : List (List ℕ)) (t : Wording)
+only_takes : (make : ℕ → Instruction) (c : ℕ) → ((n : ℕ) → n < 2 ^ 32 → WordsOf ((c ∷ []) ∷ decimal n ∷ []) (make n)) → (ws : List (List ℕ)) (t : Instruction)
     → option_map make (only_at ws) ≡ Some t → WordsOf ((c ∷ []) ∷ ws) t
 only_takes make c made [] t h = absurd cc
 only_takes make c made (w ∷ []) t h = go (value_at w) refl h
@@ -182,7 +182,7 @@ chosen : {A : Type 0} (b : Bool) (x y z : A) → cond b x y ≡ z → ((b ≡ tr
 chosen true x y z e = inl (refl, e)
 chosen false x y z e = inr (refl, e)
 
-order_takes_words : (c : ℕ) (ws : List (List ℕ)) (t : Wording) → order_of c ws ≡ Some t → WordsOf ((c ∷ []) ∷ ws) t
+order_takes_words : (c : ℕ) (ws : List (List ℕ)) (t : Instruction) → order_of c ws ≡ Some t → WordsOf ((c ∷ []) ∷ ws) t
 order_takes_words c ws t h = elim (chosen (eqb c 76) _ _ _ h) [
   | inl p ↦ rw (eqb-true c 76 p.0) (loan_takes ws t p.1)
   | inr p ↦ elim (chosen (eqb c 80) _ _ _ p.1) [
@@ -200,23 +200,23 @@ order_takes_words c ws t h = elim (chosen (eqb c 76) _ _ _ h) [
   ]
 ]
 
-takes : (ws : List (List ℕ)) (t : Wording) → by_words ws ≡ Some t → WordsOf ws t
+takes : (ws : List (List ℕ)) (t : Instruction) → by_words ws ≡ Some t → WordsOf ws t
 takes [] t h = absurd cc
 takes ([] ∷ ws) t h = absurd cc
 takes ((c ∷ []) ∷ ws) t h = order_takes_words c ws t h
 takes ((c ∷ d ∷ w) ∷ ws) t h = absurd cc
 
 -- a line that is read as an order is that order's
-pub order_takes : (line : List ℕ) (t : Wording) → order_at line ≡ Some t → (line ≡ spelling t) × IsOrder t
+pub order_takes : (line : List ℕ) (t : Instruction) → order_at line ≡ Some t → (line ≡ spelling t) × IsOrder t
 order_takes line t h =
     let w = takes (slice_split is_space line) t h in
     (sym (join_with_byte-slice_split 32 line) ∙ ap (join_with_byte 32) w.0, w.1)
 
 -- no line spells two orders
-pub one_order : (a b : Wording) → IsOrder a → IsOrder b → spelling a ≡ spelling b → a ≡ b
+pub one_order : (a b : Instruction) → IsOrder a → IsOrder b → spelling a ≡ spelling b → a ≡ b
 one_order a b h k e = same_Some a b (sym (order_again a h) ∙ ap order_at e ∙ order_again b k)
 
 -- what parsing answers
-pub parsed : (line : List ℕ) (o : Option Order) → option_map as_worded o ≡ order_at line → Parsed line (ok_or o MalformedOrder)
+pub parsed : (line : List ℕ) (o : Option Order) → option_map instruction_of o ≡ order_at line → Parsed line (ok_or o MalformedOrder)
 parsed line None e = (refl, λ t h same. none-some t (e ∙ ap order_at same ∙ order_again t h))
-parsed line (Some o) e = order_takes line (as_worded o) (sym e)
+parsed line (Some o) e = order_takes line (instruction_of o) (sym e)

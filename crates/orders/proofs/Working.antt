@@ -8,16 +8,16 @@ use Rattle.std.proofs.lemmas.List.Sums.{sum_by-cons}
 use Rattle.std.proofs.lemmas.Fmt.{length-decimal-le}
 use Rattle.refusal.specs.declared.Refusal.{Refusal}
 use Rattle.refusal.specs.Numbers.{number_of}
-use Rattle.loans.specs.Rules.{Deed, answers_to, after_all}
+use Rattle.loans.specs.Rules.{Request, answers_to, after_all}
 use Rattle.refusal.proofs.Numbers.{number_small}
 use Rattle.loans.specs.Stocks.{Stock, SameRoom, answer_limit}
 use Rattle.loans.specs.Strokes.{State}
 use Rattle.orders.specs.Replies.{reply_text, reply_to}
-use Rattle.orders.specs.Spelling.{Wording, spelling}
-use Rattle.orders.specs.Spelling.Wording.{lend, lend_element, paint, undo, keep, cancel}
+use Rattle.orders.specs.Spelling.{Instruction, spelling}
+use Rattle.orders.specs.Spelling.Instruction.{lend, lend_element, paint, undo, keep, cancel}
 use Rattle.orders.specs.Lines.{lines_of, is_end, Begins}
 use Rattle.orders.specs.Days.{Asks, answer_lines, calls_in, answers_in}
-use Rattle.orders.specs.Steps.{answer_for, after_line, LineAnswered, LinesAnswered}
+use Rattle.orders.specs.steps.Answering.{answer_for, after_line, LineAnswered, LinesAnswered}
 use Rattle.loans.proofs.Limits.{same_itself, same_then}
 use Rattle.orders.proofs.Cutting.{begins_none, begins_some, end_inside}
 
@@ -86,7 +86,7 @@ lines_small (suc fuel) m (b ∷ text) f h = go (position_from is_end 0 (b ∷ te
         (rest (drop (n + 1) (b ∷ text)) (omega (arith, less)) (omega (arith, less)))
 
 -- a line that tells an order has more than one byte
-order_long : (t : Wording) → 2 ≤ length (spelling t)
+order_long : (t : Instruction) → 2 ≤ length (spelling t)
 order_long (lend p who) = omega arith
 order_long (lend_element e who) = omega arith
 order_long (paint p) = omega arith
@@ -101,12 +101,12 @@ weight_least (b ∷ bs) = (omega arith, omega arith)
 -- no more is printed for a line than six bytes a byte
 pub printed_little : (line : List ℕ) (s t : State) (a : Result ℕ Refusal) → LineAnswered line s a t → IfOk a (λ n. n ≤ 65535) → length (reply_text (reply_to a)) ≤ 6 * weight line
 printed_little line s t (Err e) one small = omega (arith, refusal_short e, (weight_least line).0)
-printed_little line s t (Ok n) one small = go one.wish one.asks one.answered
+printed_little line s t (Ok n) one small = go one.request one.asks one.answered
   where
     short : length (reply_text (reply_to (Ok n))) ≤ 9
     short = reply_short (Ok n) small
 
-    go : (w : Option Deed) → Asks line w → Ok n ≡ answer_for s w → length (reply_text (reply_to (Ok n))) ≤ 6 * weight line
+    go : (w : Option Request) → Asks line w → Ok n ≡ answer_for s w → length (reply_text (reply_to (Ok n))) ≤ 6 * weight line
     go None asks e = absurd cc
     go (Some d) asks e = omega (arith, short, order_long asks.0, ap length asks.2, (weight_least line).1)
 
@@ -115,21 +115,21 @@ printed_little line s t (Ok n) one small = go one.wish one.asks one.answered
 one_answered : (line : List ℕ) (left : List (List ℕ)) (s t u : State) (a : Result ℕ Refusal) (items items' new : List ℕ)
     → LineAnswered line s a t → items' ≡ items ++ reply_text (reply_to a) → LinesAnswered left t items' u new → LinesAnswered (line ∷ left) s items u new
 one_answered line left s t u a items items' new one e all = record {
-  wishes = one.wish ∷ all.wishes;
+  requests = one.request ∷ all.requests;
   asked = (one.asks, all.asked);
-  printed = all.printed ∙ ap (λ xs. xs ++ rest t) e ∙ append_assoc items _ _ ∙ ap (λ xs. items ++ xs) (texts one.wish one.answered one.left);
-  left = all.left ∙ ap (λ (x : State). after_all x (calls_in all.wishes)) one.left ∙ after_one one.wish;
+  printed = all.printed ∙ ap (λ xs. xs ++ rest t) e ∙ append_assoc items _ _ ∙ ap (λ xs. items ++ xs) (texts one.request one.answered one.left);
+  left = all.left ∙ ap (λ (x : State). after_all x (calls_in all.requests)) one.left ∙ after_one one.request;
 }
   where
     rest : State → List ℕ
-    rest x = answer_lines (answers_in all.wishes (answers_to x (calls_in all.wishes)))
+    rest x = answer_lines (answers_in all.requests (answers_to x (calls_in all.requests)))
 
-    texts : (w : Option Deed) → a ≡ answer_for s w → t ≡ after_line s w
-        → reply_text (reply_to a) ++ rest t ≡ answer_lines (answers_in (w ∷ all.wishes) (answers_to s (calls_in (w ∷ all.wishes))))
+    texts : (w : Option Request) → a ≡ answer_for s w → t ≡ after_line s w
+        → reply_text (reply_to a) ++ rest t ≡ answer_lines (answers_in (w ∷ all.requests) (answers_to s (calls_in (w ∷ all.requests))))
     texts None x y = ap₂ (λ (r : Result ℕ Refusal) (z : State). reply_text (reply_to r) ++ rest z) x y
     texts (Some d) x y = ap₂ (λ (r : Result ℕ Refusal) (z : State). reply_text (reply_to r) ++ rest z) x y
 
-    after_one : (w : Option Deed) → after_all (after_line s w) (calls_in all.wishes) ≡ after_all s (calls_in (w ∷ all.wishes))
+    after_one : (w : Option Request) → after_all (after_line s w) (calls_in all.requests) ≡ after_all s (calls_in (w ∷ all.requests))
     after_one None = refl
     after_one (Some d) = refl
 
@@ -163,4 +163,4 @@ working_more all n s₀ s t old items items' line now left len₀ len len' cap�
 pub working_last : (all : List (List ℕ)) (n : ℕ) (s₀ s : State) (old items : List ℕ) (left : List (List ℕ)) (len₀ len cap₀ cap : ℕ) → left ≡ []
     → Working all n s₀ s old items left len₀ len cap₀ cap → LinesAnswered all s₀ old s items
 working_last all n s₀ s old items left len₀ len cap₀ cap e w =
-    w.rest s items (subst (λ ls. LinesAnswered ls s items s items) (sym e) (record { wishes = []; asked = tt; printed = sym (append-nil items); left = refl }))
+    w.rest s items (subst (λ ls. LinesAnswered ls s items s items) (sym e) (record { requests = []; asked = tt; printed = sym (append-nil items); left = refl }))

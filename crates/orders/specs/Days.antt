@@ -10,18 +10,18 @@ use Rattle.dds.specs.Readings.{reading_of}
 use Rattle.dds.specs.Layouts.{OpenedBy}
 use Rattle.loans.specs.Stocks.{empty_stock}
 use Rattle.loans.specs.Strokes.{State}
-use Rattle.loans.specs.Rules.{Deed, answers_to}
-use Rattle.loans.specs.History.{history_of}
+use Rattle.loans.specs.Rules.{Request, answers_to}
+use Rattle.loans.specs.Journals.{journal_of}
 use Rattle.loans.specs.Law.{Law}
 use Rattle.loans.specs.Runs.{opened_state}
-use Rattle.loans.specs.Ending.{all_cancelled}
+use Rattle.loans.specs.LoanEnds.{all_cancelled}
 use Rattle.orders.specs.declared.day.TheConstants.{LONGEST_MASTER, LONGEST_ORDERS}
 use Rattle.orders.specs.declared.ending.Ending.{Ending}
 use Rattle.orders.specs.declared.ending.Ending.TheVariants.{Refused, Shipped, Scrapped}
 use Rattle.orders.specs.declared.reply.Reply.{Reply}
 use Rattle.orders.specs.declared.reply.Reply.TheVariants as replies
-use Rattle.orders.specs.Spelling.{Wording, IsOrder, spelling}
-use Rattle.orders.specs.Orders.{SpellsNone, deed_for}
+use Rattle.orders.specs.Spelling.{Instruction, IsOrder, spelling}
+use Rattle.orders.specs.Orders.{SpellsNone, request_for}
 use Rattle.orders.specs.Lines.{lines_of}
 use Rattle.orders.specs.Replies.{reply_text, reply_to}
 
@@ -32,8 +32,8 @@ closing_reply Shipped = replies.Ship
 closing_reply Scrapped = replies.Scrap
 
 -- what a line asks for: the call that its order means, and nothing where it tells no order
-abbrev pub Asks : List ℕ → Option Deed → Type 0
-Asks line (Some d) = (t : Wording) × IsOrder t × (line ≡ spelling t) × (d ≡ deed_for t)
+abbrev pub Asks : List ℕ → Option Request → Type 0
+Asks line (Some d) = (t : Instruction) × IsOrder t × (line ≡ spelling t) × (d ≡ request_for t)
 Asks line None = SpellsNone line
 
 -- the lines that are printed for answers
@@ -69,11 +69,11 @@ abbrev pub morning : Layout → List ℕ → State
 morning y master = opened_state y 1 master (empty_stock 64 4096)
 
 -- the calls that lines ask for, in their order
-abbrev pub calls_in : List (Option Deed) → List Deed
-calls_in wishes = filter_map (λ (w : Option Deed). w) wishes
+abbrev pub calls_in : List (Option Request) → List Request
+calls_in requests = filter_map (λ (w : Option Request). w) requests
 
 -- what is answered to each line, where those are the answers to the calls
-abbrev pub answers_in : List (Option Deed) → List (Result ℕ Refusal) → List (Result ℕ Refusal)
+abbrev pub answers_in : List (Option Request) → List (Result ℕ Refusal) → List (Result ℕ Refusal)
 answers_in [] rs = []
 answers_in (None ∷ ws) rs = Err MalformedOrder ∷ answers_in ws rs
 answers_in (Some d ∷ ws) [] = []
@@ -84,14 +84,14 @@ answers_in (Some d ∷ ws) (r ∷ rs) = r ∷ answers_in ws rs
 pub record Worked (g : DayInputs) (ending : Ending) (file new : List ℕ) : Type 0 where
   pub layout : Layout
   pub opened : MasterOpened g (Ok layout)
-  pub wishes : List (Option Deed)
-  pub asked : AllZip Asks (lines_of g.orders) wishes
+  pub requests : List (Option Request)
+  pub asked : AllZip Asks (lines_of g.orders) requests
   pub answers : List (Result ℕ Refusal)
-  pub each : length answers ≡ length (calls_in wishes)
-  pub by_rules : answers ≡ answers_to (morning layout g.master) (calls_in wishes)
-  pub printed : new ≡ g.before ++ answer_lines (answers_in wishes answers)
+  pub each : length answers ≡ length (calls_in requests)
+  pub by_rules : answers ≡ answers_to (morning layout g.master) (calls_in requests)
+  pub printed : new ≡ g.before ++ answer_lines (answers_in requests answers)
   pub end : State
-  pub law : Law layout 1 64 4096 g.master (history_of (calls_in wishes) answers) end
+  pub law : Law layout 1 64 4096 g.master (journal_of (calls_in requests) answers) end
   pub closed : Closed end ending file
 
 -- where no order is carried out, nothing is printed, and nothing changes

@@ -4,8 +4,7 @@ pub mod Orders
 pub mod Replies
 pub mod Lines
 pub mod Days
-pub mod Reading
-pub mod Steps
+pub mod steps
 -- what the promises here cite of the crates below
 pub use Rattle.refusal.specs.Numbers
 pub use Rattle.formats.specs.Codes
@@ -14,7 +13,7 @@ pub use Rattle.dds.specs.Layouts
 pub use Rattle.loans.specs.Stocks
 pub use Rattle.loans.specs.Strokes
 pub use Rattle.loans.specs.Rules
-pub use Rattle.loans.specs.History
+pub use Rattle.loans.specs.Journals
 pub use Rattle.loans.specs.Law
 pub use Rattle.loans.specs.Runs
-pub use Rattle.loans.specs.Ending
+pub use Rattle.loans.specs.LoanEnds

@@ -2,11 +2,11 @@
 ghost use Rattle.std.specs.Prelude.{◌≡◌, ◌+◌, ◌*◌, ◌<◌, ◌≤◌, ◌++◌, ◌↔◌, Some, IsErr, OnErr, IfOk, length, vec_len, vec_capacity};
 ghost use Rattle.loans.specs.Stocks.{SameRoom, answer_limit};
 ghost use Rattle.loans.specs.Strokes.{state_of};
-ghost use Rattle.loans.specs.Scrapping.{AtHome};
+ghost use Rattle.loans.specs.Scrapping.{WithOwn};
 ghost use Rattle.orders.specs.Lines.{lines_of};
 ghost use Rattle.orders.specs.Replies.{reply_text};
 ghost use Rattle.orders.specs.Days.{closing_reply, Closed, room_for, EndedAs, DayDone};
-ghost use Rattle.orders.specs.Steps.{LineAnswered, LinesAnswered, Begun};
+ghost use Rattle.orders.specs.steps.Answering.{LineAnswered, LinesAnswered, Begun};
 
 use crate::ending::Ending;
 use crate::lines::Lines;
@@ -97,7 +97,7 @@ fn answer_all(
 // Ships, or scraps where a loan is out.
 fn close(docket: Docket, job: &mut Job, file: &mut [u8], shelves: &mut Shelves<'_>) -> Ending
     requires number { job.old.number ≡ Some docket.0 }
-    requires home { AtHome (state_of job.old file.old shelves.old) }
+    requires own { WithOwn (state_of job.old file.old shelves.old) }
     ensures { Closed (state_of job.old file.old shelves.old) result file.new }
 {
     if let Err(Unspent { docket, refusal: _ }) = ship(docket, job) {

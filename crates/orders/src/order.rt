@@ -2,10 +2,10 @@
 ghost use Rattle.std.specs.Prelude.{◌≡◌, ◌<◌, ◌≤◌, IfOk, map, length, MatchOption};
 ghost use Rattle.std.specs.List.{slice_split};
 ghost use Rattle.std.specs.Option.{option_map};
-ghost use Rattle.orders.specs.Reading.{is_space, loan_at, paint_at, undo_at, only_at, order_of, order_at};
-ghost use Rattle.orders.specs.Orders.{as_worded};
+ghost use Rattle.orders.specs.steps.Reading.{is_space, loan_at, paint_at, undo_at, only_at, order_of, order_at};
+ghost use Rattle.orders.specs.Orders.{instruction_of};
 ghost use Rattle.orders.specs.Words.{now_of};
-ghost use Rattle.orders.specs.Orders.{Parsed, EachLineIsOneOrder, HasShortDigits, deed_for};
+ghost use Rattle.orders.specs.Orders.{Parsed, EachLineIsOneOrder, HasShortDigits, request_for};
 ghost use Rattle.loans.specs.Calls.{Called};
 ghost use Rattle.loans.specs.Stocks.{SameRoom, answer_limit};
 
@@ -66,7 +66,7 @@ pub enum Order<'a> {
 }
 
 fn loan<'a>(fields: &[&'a [u8]]) -> Option<Order<'a>>
-    ensures { option_map as_worded result ≡ loan_at (map now_of fields.now) }
+    ensures { option_map instruction_of result ≡ loan_at (map now_of fields.now) }
 {
     match fields {
         [element, level, slice, borrower] => Some(Order::Loan {
@@ -86,7 +86,7 @@ fn loan<'a>(fields: &[&'a [u8]]) -> Option<Order<'a>>
 }
 
 fn paint<'a>(fields: &[&'a [u8]]) -> Option<Order<'a>>
-    ensures { option_map as_worded result ≡ paint_at (map now_of fields.now) }
+    ensures { option_map instruction_of result ≡ paint_at (map now_of fields.now) }
 {
     let [loan, borrower, row, first, digits] = fields else {
         return None;
@@ -101,7 +101,7 @@ fn paint<'a>(fields: &[&'a [u8]]) -> Option<Order<'a>>
 }
 
 fn undo<'a>(fields: &[&'a [u8]]) -> Option<Order<'a>>
-    ensures { option_map as_worded result ≡ undo_at (map now_of fields.now) }
+    ensures { option_map instruction_of result ≡ undo_at (map now_of fields.now) }
 {
     let [loan, borrower] = fields else {
         return None;
@@ -123,7 +123,7 @@ fn only(fields: &[&[u8]]) -> Option<u32>
 }
 
 fn order_for<'a>(letter: char, fields: &[&'a [u8]]) -> Option<Order<'a>>
-    ensures { option_map as_worded result ≡ order_of letter (map now_of fields.now) }
+    ensures { option_map instruction_of result ≡ order_of letter (map now_of fields.now) }
 {
     match letter {
         'L' => loan(fields),
@@ -151,7 +151,7 @@ fn words(line: &[u8]) -> Option<ArrayVec<&[u8], 6>>
 
 impl<'a> Order<'a> {
     fn read(line: &'a [u8]) -> Option<Order<'a>>
-        ensures { option_map as_worded result ≡ order_at line.now }
+        ensures { option_map instruction_of result ≡ order_at line.now }
     {
         match words(line)?.as_slice() {
             [[letter], fields @ ..] => order_for(char::from(*letter), fields),
@@ -176,7 +176,7 @@ impl<'a> Order<'a> {
         shelves: &mut Shelves<'_>,
     ) -> Answer
         requires { HasShortDigits self }
-        ensures rule { Called (deed_for (as_worded self.entry)) job.old file.old shelves.old result
+        ensures rule { Called (request_for (instruction_of self.entry)) job.old file.old shelves.old result
             job.new file.new shelves.new }
         ensures room { SameRoom shelves.old shelves.new }
         ensures limit { IfOk result (λ number. number ≤ answer_limit shelves.old) }

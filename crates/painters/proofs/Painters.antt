@@ -16,14 +16,14 @@ use Rattle.loans.specs.declared.call.Call.{Call}
 use Rattle.loans.specs.declared.loan.Loan.{Loan}
 use Rattle.painters.specs.declared.Painter.{Painter}
 use Rattle.loans.specs.Lists.{less_first, less_all}
-use Rattle.loans.specs.Books.{no_loan}
+use Rattle.loans.specs.Ledgers.{no_loan}
 use Rattle.loans.specs.Stocks.{Stock, is_number, is_out, the_loan}
 use Rattle.loans.specs.Strokes.{stroke_place}
-use Rattle.loans.specs.Rules.{Deed, deed_of, answers_to}
+use Rattle.loans.specs.Rules.{Request, request_of, answers_to}
 use Rattle.loans.specs.Runs.{opened_state}
-use Rattle.loans.specs.Rules.Deed.{lend, paint, undo, keep, cancel}
+use Rattle.loans.specs.Rules.Request.{lend, paint, undo, keep, cancel}
 use Rattle.loans.specs.Lending.{granting}
-use Rattle.loans.specs.History.{Event, Stroke, written_down, history_of, lent, out_in, stroke_of, reach_over, covers, laying, standing, ever_laid}
+use Rattle.loans.specs.Journals.{Event, Stroke, written_down, journal_of, lent, out_in, stroke_of, reach_over, covers, laying, standing, ever_laid}
 use Rattle.loans.specs.Law.{OfPiece, OfListed, InRow}
 use Rattle.painters.specs.Tracing.{newest_over, paid_off, owing_more, owes_nothing, owed_before, owed, unless_out, piece_after, piece_out, area_for, painter_by, no_call, no_answer, past_of, painter_at, IsNewest, NewestPainter, begin_of, LiesOver, PaintedBy, IsRun, Traced}
 use Rattle.loans.proofs.Outs.{out_less, loan_less}
@@ -199,12 +199,12 @@ found_ended t n ls o m f = go (eqb m n) refl o f
         }
 
 -- loans that were granted before are among those granted
-pub pieces_before : (t : Table) (d : Deed) (r : Result ℕ Refusal) (h : List Event) → All (OfPiece t) (lent t (record { call = d; answer = r } ∷ h)) → All (OfPiece t) (lent t h)
+pub pieces_before : (t : Table) (d : Request) (r : Result ℕ Refusal) (h : List Event) → All (OfPiece t) (lent t (record { call = d; answer = r } ∷ h)) → All (OfPiece t) (lent t h)
 pieces_before t d (Err e) h a = a
 pieces_before t (lend p who) (Ok x) h a = All-tail (OfPiece t) _ _ a
 pieces_before t d (Ok x) h a = a
 
-found_after : (t : Table) (n : ℕ) (d : Deed) (r : Result ℕ Refusal) (h : List Event) → All (OfPiece t) (lent t (record { call = d; answer = r } ∷ h))
+found_after : (t : Table) (n : ℕ) (d : Request) (r : Result ℕ Refusal) (h : List Event) → All (OfPiece t) (lent t (record { call = d; answer = r } ∷ h))
     → PieceFound t n (out_in t h) (piece_out n h) → PieceFound t n (out_in t (record { call = d; answer = r } ∷ h)) (piece_after n (piece_out n h) d r)
 found_after t n d (Err e) h a f = f
 found_after t n (lend p who) (Ok x) h a f = found_lent t n (out_in t h) (piece_out n h) x p who (All-head (OfPiece t) _ _ a).0 f
@@ -234,7 +234,7 @@ newest_first s ss place false true e = refl
 newest_first s ss place false false e = refl
 
 -- one call further back
-pub walk_one : (t : Table) (opening : List ℕ) (h : List Event) (o : Owes) (place : ℕ) (d : Deed) (r : Result ℕ Refusal) → All (OfPiece t) (lent t h)
+pub walk_one : (t : Table) (opening : List ℕ) (h : List Event) (o : Owes) (place : ℕ) (d : Request) (r : Result ℕ Refusal) → All (OfPiece t) (lent t h)
     → newest_over (survivors o (standing t opening (record { call = d; answer = r } ∷ h))) place
     ≡ or_else (painter_by t (λ n. piece_out n h) o place d r) (newest_over (survivors (λ m. owed_before m (o m) d r) (standing t opening h)) place)
 walk_one t opening h o place d (Err e) a = refl
@@ -246,38 +246,38 @@ walk_one t opening h o place (cancel m) (Ok x) a = ap (λ ss. newest_over ss pla
 walk_one t opening h o place d (Ok x) a = refl
 
 written_more : (h : List Event) (cs : List Call) (rs : List (Result ℕ Refusal)) (k : ℕ) (dc : Call) (dr : Result ℕ Refusal) → k < length cs → k < length rs
-    → written_down h (map deed_of (take (suc k) cs)) (take (suc k) rs)
-    ≡ record { call = deed_of (get_or cs k dc); answer = get_or rs k dr } ∷ written_down h (map deed_of (take k cs)) (take k rs)
+    → written_down h (map request_of (take (suc k) cs)) (take (suc k) rs)
+    ≡ record { call = request_of (get_or cs k dc); answer = get_or rs k dr } ∷ written_down h (map request_of (take k cs)) (take k rs)
 written_more h [] rs k dc dr i j = absurd (omega arith)
 written_more h (c ∷ cs) [] k dc dr i j = absurd (omega arith)
 written_more h (c ∷ cs) (r ∷ rs) zero dc dr i j = refl
-written_more h (c ∷ cs) (r ∷ rs) (suc k) dc dr i j = written_more (record { call = deed_of c; answer = r } ∷ h) cs rs k dc dr (omega arith) (omega arith)
+written_more h (c ∷ cs) (r ∷ rs) (suc k) dc dr i j = written_more (record { call = request_of c; answer = r } ∷ h) cs rs k dc dr (omega arith) (omega arith)
 
 pub past_more : (cs : List Call) (rs : List (Result ℕ Refusal)) (k : ℕ) (dc : Call) (dr : Result ℕ Refusal) → k < length cs → k < length rs
-    → past_of cs rs (k + 1) ≡ record { call = deed_of (get_or cs k dc); answer = get_or rs k dr } ∷ past_of cs rs k
+    → past_of cs rs (k + 1) ≡ record { call = request_of (get_or cs k dc); answer = get_or rs k dr } ∷ past_of cs rs k
 past_more cs rs k dc dr i j =
     let one : suc k ≡ k + 1 = omega arith in
-    subst (λ x. past_of cs rs x ≡ record { call = deed_of (get_or cs k dc); answer = get_or rs k dr } ∷ past_of cs rs k) one (written_more [] cs rs k dc dr i j)
+    subst (λ x. past_of cs rs x ≡ record { call = request_of (get_or cs k dc); answer = get_or rs k dr } ∷ past_of cs rs k) one (written_more [] cs rs k dc dr i j)
 
 -- what a walk over pairs of a call and its answer finds out, and what is found out of their history
 abbrev pub folded : ℕ → List (Call × Result ℕ Refusal) → Option Piece
-folded n ps = fold (λ o p. piece_after n o (deed_of p.0) p.1) None ps
+folded n ps = fold (λ o p. piece_after n o (request_of p.0) p.1) None ps
 
 pub folded_more : (n : ℕ) (ps : List (Call × Result ℕ Refusal)) (o : Option Piece) (c : Call) (r : Result ℕ Refusal) (o' : Option Piece) → o ≡ folded n ps
-    → o' ≡ piece_after n o (deed_of c) r → o' ≡ folded n (ps ++ (c, r) ∷ [])
+    → o' ≡ piece_after n o (request_of c) r → o' ≡ folded n (ps ++ (c, r) ∷ [])
 folded_more n ps o c r o' e f =
-    f ∙ ap (λ x. piece_after n x (deed_of c) r) e ∙ sym (fold-append (λ x (p : Call × Result ℕ Refusal). piece_after n x (deed_of p.0) p.1) None ps ((c, r) ∷ []))
+    f ∙ ap (λ x. piece_after n x (request_of c) r) e ∙ sym (fold-append (λ x (p : Call × Result ℕ Refusal). piece_after n x (request_of p.0) p.1) None ps ((c, r) ∷ []))
 
 piece_written : (n : ℕ) (h : List Event) (cs : List Call) (rs : List (Result ℕ Refusal)) (k : ℕ)
-    → fold (λ o (p : Call × Result ℕ Refusal). piece_after n o (deed_of p.0) p.1) (piece_out n h) (take k (zip cs rs))
-    ≡ piece_out n (written_down h (map deed_of (take k cs)) (take k rs))
+    → fold (λ o (p : Call × Result ℕ Refusal). piece_after n o (request_of p.0) p.1) (piece_out n h) (take k (zip cs rs))
+    ≡ piece_out n (written_down h (map request_of (take k cs)) (take k rs))
 piece_written n h cs rs zero = refl
 piece_written n h [] rs (suc k) = refl
 piece_written n h (c ∷ cs) [] (suc k) = refl
-piece_written n h (c ∷ cs) (r ∷ rs) (suc k) = piece_written n (record { call = deed_of c; answer = r } ∷ h) cs rs k
+piece_written n h (c ∷ cs) (r ∷ rs) (suc k) = piece_written n (record { call = request_of c; answer = r } ∷ h) cs rs k
 
 pub piece_folded : (n k : ℕ) (cs : List Call) (rs : List (Result ℕ Refusal)) (o : Option Piece) → o ≡ folded n (take k (zip cs rs))
-    → o ≡ piece_out n (history_of (map deed_of (take k cs)) (take k rs))
+    → o ≡ piece_out n (journal_of (map request_of (take k cs)) (take k rs))
 piece_folded n k cs rs o e = e ∙ piece_written n [] cs rs k
 
 -- a position behind the calls or behind the answers
@@ -294,16 +294,16 @@ behind_less c r cs rs k (inl h) = inl (omega arith)
 behind_less c r cs rs k (inr h) = inr (omega arith)
 
 written_all : (h : List Event) (cs : List Call) (rs : List (Result ℕ Refusal)) (k : ℕ) → Behind cs rs k
-    → written_down h (map deed_of (take k cs)) (take k rs) ≡ written_down h (map deed_of cs) rs
+    → written_down h (map request_of (take k cs)) (take k rs) ≡ written_down h (map request_of cs) rs
 written_all h [] rs zero b = refl
 written_all h [] rs (suc k) b = refl
 written_all h (c ∷ cs) [] zero b = refl
 written_all h (c ∷ cs) [] (suc k) b = refl
 written_all h (c ∷ cs) (r ∷ rs) zero (inl b) = absurd (omega arith)
 written_all h (c ∷ cs) (r ∷ rs) zero (inr b) = absurd (omega arith)
-written_all h (c ∷ cs) (r ∷ rs) (suc k) b = written_all (record { call = deed_of c; answer = r } ∷ h) cs rs k (behind_less c r cs rs k b)
+written_all h (c ∷ cs) (r ∷ rs) (suc k) b = written_all (record { call = request_of c; answer = r } ∷ h) cs rs k (behind_less c r cs rs k b)
 
-pub past_all : (cs : List Call) (rs : List (Result ℕ Refusal)) (k : ℕ) → Behind cs rs k → past_of cs rs k ≡ history_of (map deed_of cs) rs
+pub past_all : (cs : List Call) (rs : List (Result ℕ Refusal)) (k : ℕ) → Behind cs rs k → past_of cs rs k ≡ journal_of (map request_of cs) rs
 past_all cs rs k b = written_all [] cs rs k b
 
 -- what is owed from a position on
@@ -316,7 +316,7 @@ owed_all n cs rs k (inl h) = at_drop_all (λ xs. owed n xs (drop k rs)) cs k h
 owed_all n cs rs k (inr h) = at_drop_all (λ xs. owed n (drop k cs) xs) rs k h ∙ owed_nil n (drop k cs)
 
 pub owed_more : (n : ℕ) (cs : List Call) (rs : List (Result ℕ Refusal)) (k : ℕ) (dc : Call) (dr : Result ℕ Refusal) → k < length cs → k < length rs
-    → owed n (drop k cs) (drop k rs) ≡ owed_before n (owed n (drop (k + 1) cs) (drop (k + 1) rs)) (deed_of (get_or cs k dc)) (get_or rs k dr)
+    → owed n (drop k cs) (drop k rs) ≡ owed_before n (owed n (drop (k + 1) cs) (drop (k + 1) rs)) (request_of (get_or cs k dc)) (get_or rs k dr)
 owed_more n cs rs k dc dr i j =
     ap (λ xs. owed n xs (drop k rs)) (drop_more cs k dc i) ∙ ap (λ xs. owed n (get_or cs k dc ∷ drop (k + 1) cs) xs) (drop_more rs k dr j)
 
@@ -325,7 +325,7 @@ abbrev is_some : Option ℕ → Bool
 is_some None = false
 is_some (Some k) = true
 
-gone_before : (n : ℕ) (d : Deed) (r : Result ℕ Refusal) → owed_before n None d r ≡ None
+gone_before : (n : ℕ) (d : Request) (r : Result ℕ Refusal) → owed_before n None d r ≡ None
 gone_before n d (Err e) = refl
 gone_before n (cancel m) (Ok x) = elim (eqb m n) as (λ b. cond {A = Option ℕ} b None None ≡ None) [ true ↦ refl | false ↦ refl ]
 gone_before n d (Ok x) = refl
@@ -334,7 +334,7 @@ gone_all : (n : ℕ) (cs : List Call) (rs : List (Result ℕ Refusal)) (k : ℕ)
 gone_all n cs rs zero e = e
 gone_all n [] rs (suc k) e = absurd (true≢false (ap is_some e))
 gone_all n (c ∷ cs) [] (suc k) e = absurd (true≢false (ap is_some (sym (owed_nil n (drop k cs)) ∙ e)))
-gone_all n (c ∷ cs) (r ∷ rs) (suc k) e = rw (gone_all n cs rs k e) (gone_before n (deed_of c) r)
+gone_all n (c ∷ cs) (r ∷ rs) (suc k) e = rw (gone_all n cs rs k e) (gone_before n (request_of c) r)
 
 pub gone_from : (n : ℕ) (cs : List Call) (rs : List (Result ℕ Refusal)) (k j : ℕ) → j ≤ k → owed n (drop k cs) (drop k rs) ≡ None → owed n (drop j cs) (drop j rs) ≡ None
 gone_from n cs rs k zero h e = gone_all n cs rs k e
@@ -352,14 +352,14 @@ pub record OwedAt (cs : List Call) (rs : List (Result ℕ Refusal)) (n from k o 
 
 module _ (cs : List Call) (rs : List (Result ℕ Refusal)) (n from k o : ℕ) (at : OwedAt cs rs n from k o) where
   -- one call further back
-  pub owed_back : from < k → (dc : Call) (dr : Result ℕ Refusal) → owed n (drop (k - 1) cs) (drop (k - 1) rs) ≡ owed_before n (Some o) (deed_of (get_or cs (k - 1) dc)) (get_or rs (k - 1) dr)
+  pub owed_back : from < k → (dc : Call) (dr : Result ℕ Refusal) → owed n (drop (k - 1) cs) (drop (k - 1) rs) ≡ owed_before n (Some o) (request_of (get_or cs (k - 1) dc)) (get_or rs (k - 1) dr)
   owed_back h dc dr =
       let back : k - 1 + 1 ≡ k = omega arith in
       owed_more n cs rs (k - 1) dc dr (omega (arith, at.few)) (omega (arith, at.inside))
-      ∙ ap (λ x. owed_before n (owed n (drop x cs) (drop x rs)) (deed_of (get_or cs (k - 1) dc)) (get_or rs (k - 1) dr)) back
-      ∙ ap (λ x. owed_before n x (deed_of (get_or cs (k - 1) dc)) (get_or rs (k - 1) dr)) at.is
+      ∙ ap (λ x. owed_before n (owed n (drop x cs) (drop x rs)) (request_of (get_or cs (k - 1) dc)) (get_or rs (k - 1) dr)) back
+      ∙ ap (λ x. owed_before n x (request_of (get_or cs (k - 1) dc)) (get_or rs (k - 1) dr)) at.is
 
-  pub owed_gone : from < k → (dc : Call) (dr : Result ℕ Refusal) → None ≡ owed_before n (Some o) (deed_of (get_or cs (k - 1) dc)) (get_or rs (k - 1) dr)
+  pub owed_gone : from < k → (dc : Call) (dr : Result ℕ Refusal) → None ≡ owed_before n (Some o) (request_of (get_or cs (k - 1) dc)) (get_or rs (k - 1) dr)
       → owed n (drop from cs) (drop from rs) ≡ None
   owed_gone h dc dr e = gone_from n cs rs (k - 1) from (omega arith) (owed_back h dc dr ∙ sym e)
 
@@ -451,8 +451,8 @@ painted_by y (s ∷ ss) i h = go (painted_by y ss i (All-tail (PlacedSo y) s ss 
     go rest false e = more e (newest_over ss i) rest
 
 -- of a run the law has it that the loans are of pieces that exist, and that each stroke lies in a row of its loan's piece
-traced : (y : Layout) (ds : List Deed) (rs : List (Result ℕ Refusal)) (place : ℕ) (r : Option Painter)
-    → (All (OfPiece y.table) (lent y.table (history_of ds rs)) → NewestPainter y.table ds rs place r) → Traced y ds rs place r
+traced : (y : Layout) (ds : List Request) (rs : List (Result ℕ Refusal)) (place : ℕ) (r : Option Painter)
+    → (All (OfPiece y.table) (lent y.table (journal_of ds rs)) → NewestPainter y.table ds rs place r) → Traced y ds rs place r
 traced y ds rs place r newest = record { run = of_run; placed = placed_in; pieces = newest }
   where
     -- of the answers to a run
@@ -462,29 +462,29 @@ traced y ds rs place r newest = record { run = of_run; placed = placed_in; piece
 
     of_run : (number : ℕ) (file : List ℕ) (k : Stock) → IsRun y number file k ds rs → NewestPainter y.table ds rs place r
     of_run number file k is =
-        newest (at_run (λ x. All (OfPiece y.table) (lent y.table (history_of ds x))) number file k is (law_run y number file k ds is.length is.marks is.bytes).pieces)
+        newest (at_run (λ x. All (OfPiece y.table) (lent y.table (journal_of ds x))) number file k is (law_run y number file k ds is.length is.marks is.bytes).pieces)
 
-    all_placed : (number : ℕ) (file : List ℕ) (k : Stock) → IsRun y number file k ds rs → All (PlacedSo y) (standing y.table file (history_of ds rs))
+    all_placed : (number : ℕ) (file : List ℕ) (k : Stock) → IsRun y number file k ds rs → All (PlacedSo y) (standing y.table file (journal_of ds rs))
     all_placed number file k is =
         let t : Table = y.table in
-        let h : List Event = history_of ds (answers_to (opened_state y number file k) ds) in
+        let h : List Event = journal_of ds (answers_to (opened_state y number file k) ds) in
         let law = law_run y number file k ds is.length is.marks is.bytes in
-        at_run (λ x. All (PlacedSo y) (standing t file (history_of ds x))) number file k is
+        at_run (λ x. All (PlacedSo y) (standing t file (journal_of ds x))) number file k is
         (standing_all (PlacedSo y) t file h
         (All-weaker (InRow (lent t h)) (PlacedSo y) (placed_row y (lent t h) law.pieces law.areas) (ever_laid t file h) law.rows))
 
-    placed_in : (number : ℕ) (file : List ℕ) (k : Stock) → IsRun y number file k ds rs → PaintedBy y (standing y.table file (history_of ds rs)) place r
+    placed_in : (number : ℕ) (file : List ℕ) (k : Stock) → IsRun y number file k ds rs → PaintedBy y (standing y.table file (journal_of ds rs)) place r
     placed_in number file k is =
-        subst (PaintedBy y (standing y.table file (history_of ds rs)) place) (sym (of_run number file k is file))
-        (painted_by y (standing y.table file (history_of ds rs)) place (all_placed number file k is))
+        subst (PaintedBy y (standing y.table file (journal_of ds rs)) place) (sym (of_run number file k is file))
+        (painted_by y (standing y.table file (journal_of ds rs)) place (all_placed number file k is))
 
 -- a walk back to a position: who laid the newest stroke is still to be found before it
 pub record Walked (t : Table) (cs : List Call) (rs : List (Result ℕ Refusal)) (place k : ℕ) : Type 0 where
   pub calls : k ≤ length cs
   pub answers : k ≤ length rs
-  pub pieces : All (OfPiece t) (lent t (history_of (map deed_of cs) rs)) → All (OfPiece t) (lent t (past_of cs rs k))
-  pub same : All (OfPiece t) (lent t (history_of (map deed_of cs) rs)) → (opening : List ℕ)
-      → newest_over (standing t opening (history_of (map deed_of cs) rs)) place
+  pub pieces : All (OfPiece t) (lent t (journal_of (map request_of cs) rs)) → All (OfPiece t) (lent t (past_of cs rs k))
+  pub same : All (OfPiece t) (lent t (journal_of (map request_of cs) rs)) → (opening : List ℕ)
+      → newest_over (standing t opening (journal_of (map request_of cs) rs)) place
       ≡ newest_over (survivors (λ n. owed n (drop k cs) (drop k rs)) (standing t opening (past_of cs rs k))) place
 
 pub walk_none : (t : Table) (cs : List Call) (rs : List (Result ℕ Refusal)) (place k : ℕ) → Behind cs rs k → k ≤ length cs → k ≤ length rs → Walked t cs rs place k
@@ -502,10 +502,10 @@ walk_start : (t : Table) (cs : List Call) (rs : List (Result ℕ Refusal)) (plac
 walk_start t cs rs place = walk_none t cs rs place (min (length cs) (length rs)) (shorter cs rs (min (length cs) (length rs)) refl) (omega arith) (omega arith)
 
 -- every call was walked past
-pub walk_all : (y : Layout) (cs : List Call) (rs : List (Result ℕ Refusal)) (place k : ℕ) → Walked y.table cs rs place k → k ≤ 0 → Traced y (map deed_of cs) rs place None
+pub walk_all : (y : Layout) (cs : List Call) (rs : List (Result ℕ Refusal)) (place k : ℕ) → Walked y.table cs rs place k → k ≤ 0 → Traced y (map request_of cs) rs place None
 walk_all y cs rs place k w h =
     let none : k ≡ 0 = omega arith in
-    traced y (map deed_of cs) rs place None
+    traced y (map request_of cs) rs place None
     (λ a opening.
     sym (w.same a opening ∙ ap (λ x. newest_over (survivors (λ n. owed n (drop k cs) (drop k rs)) (standing y.table opening (past_of cs rs x))) place) none))
 
@@ -516,25 +516,25 @@ module _ (t : Table) (cs : List Call) (rs : List (Result ℕ Refusal)) (place j 
   in_answers : j < length rs
   in_answers = omega (arith, w.answers)
 
-  pieces_here : All (OfPiece t) (lent t (history_of (map deed_of cs) rs)) → All (OfPiece t) (lent t (past_of cs rs j))
+  pieces_here : All (OfPiece t) (lent t (journal_of (map request_of cs) rs)) → All (OfPiece t) (lent t (past_of cs rs j))
   pieces_here a =
-      pieces_before t (deed_of (get_or cs j no_call)) (get_or rs j no_answer) (past_of cs rs j)
+      pieces_before t (request_of (get_or cs j no_call)) (get_or rs j no_answer) (past_of cs rs j)
       (subst (λ (h : List Event). All (OfPiece t) (lent t h)) (past_more cs rs j no_call no_answer in_calls in_answers) (w.pieces a))
 
-  here_or_before : All (OfPiece t) (lent t (history_of (map deed_of cs) rs)) → (opening : List ℕ)
-      → newest_over (standing t opening (history_of (map deed_of cs) rs)) place
+  here_or_before : All (OfPiece t) (lent t (journal_of (map request_of cs) rs)) → (opening : List ℕ)
+      → newest_over (standing t opening (journal_of (map request_of cs) rs)) place
       ≡ or_else (painter_at t cs rs j place) (newest_over (survivors (λ n. owed n (drop j cs) (drop j rs)) (standing t opening (past_of cs rs j))) place)
   here_or_before a opening =
       let owes : Owes = λ n. owed n (drop (j + 1) cs) (drop (j + 1) rs) in
       w.same a opening
       ∙ ap (λ (h : List Event). newest_over (survivors owes (standing t opening h)) place) (past_more cs rs j no_call no_answer in_calls in_answers)
-      ∙ walk_one t opening (past_of cs rs j) owes place (deed_of (get_or cs j no_call)) (get_or rs j no_answer) (pieces_here a)
+      ∙ walk_one t opening (past_of cs rs j) owes place (request_of (get_or cs j no_call)) (get_or rs j no_answer) (pieces_here a)
       ∙ ap (λ (ss : List Stroke). or_else (painter_at t cs rs j place) (newest_over ss place))
-      (same_owes (λ m. owed_before m (owes m) (deed_of (get_or cs j no_call)) (get_or rs j no_answer)) (λ n. owed n (drop j cs) (drop j rs)) (standing t opening (past_of cs rs j))
+      (same_owes (λ m. owed_before m (owes m) (request_of (get_or cs j no_call)) (get_or rs j no_answer)) (λ n. owed n (drop j cs) (drop j rs)) (standing t opening (past_of cs rs j))
       (λ m. sym (owed_more m cs rs j no_call no_answer in_calls in_answers)))
 
-  found_here : (p : Painter) → Some p ≡ painter_at t cs rs j place → All (OfPiece t) (lent t (history_of (map deed_of cs) rs))
-      → NewestPainter t (map deed_of cs) rs place (Some p)
+  found_here : (p : Painter) → Some p ≡ painter_at t cs rs j place → All (OfPiece t) (lent t (journal_of (map request_of cs) rs))
+      → NewestPainter t (map request_of cs) rs place (Some p)
   found_here p e a opening =
       sym (here_or_before a opening
       ∙ ap (λ x. or_else x (newest_over (survivors (λ n. owed n (drop j cs) (drop j rs)) (standing t opening (past_of cs rs j))) place)) (sym e))
@@ -565,11 +565,11 @@ walked_past t cs rs place (suc n) k w h none =
     (cases_lt k (suc n))
 
 pub newest_traced : (y : Layout) (cs : List Call) (rs : List (Result ℕ Refusal)) (place : ℕ) (r : Option Painter)
-    → IsNewest y.table cs rs place (min (length cs) (length rs)) r → Traced y (map deed_of cs) rs place r
+    → IsNewest y.table cs rs place (min (length cs) (length rs)) r → Traced y (map request_of cs) rs place r
 newest_traced y cs rs place None none =
     walk_all y cs rs place 0 (walked_past y.table cs rs place (min (length cs) (length rs)) 0 (walk_start y.table cs rs place) (omega arith) (λ j low high. none j high)) (omega arith)
 newest_traced y cs rs place (Some p) it =
     let next : it.0 + 1 ≤ min (length cs) (length rs) = omega (arith, it.1) in
     let w : Walked y.table cs rs place (it.0 + 1) =
     walked_past y.table cs rs place (min (length cs) (length rs)) (it.0 + 1) (walk_start y.table cs rs place) next (λ j low high. it.3 j (omega arith) high) in
-    traced y (map deed_of cs) rs place (Some p) (found_here y.table cs rs place it.0 w p (sym it.2))
+    traced y (map request_of cs) rs place (Some p) (found_here y.table cs rs place it.0 w p (sym it.2))

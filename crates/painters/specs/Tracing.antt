@@ -10,12 +10,12 @@ use Rattle.dds.specs.Pieces.{piece_of}
 use Rattle.dds.specs.Places.{exists_in, area_in, AreaOf}
 use Rattle.loans.specs.declared.call.Call.{Call}
 use Rattle.painters.specs.declared.Painter.{Painter}
-use Rattle.loans.specs.Books.{no_loan}
+use Rattle.loans.specs.Ledgers.{no_loan}
 use Rattle.loans.specs.Stocks.{Stock}
 use Rattle.loans.specs.Strokes.{Painting}
-use Rattle.loans.specs.Rules.{Deed, deed_of, answers_to}
-use Rattle.loans.specs.Rules.Deed.{lend, paint, undo, keep, cancel}
-use Rattle.loans.specs.History.{Event, Stroke, history_of, lent, standing, reach_over, covers}
+use Rattle.loans.specs.Rules.{Request, request_of, answers_to}
+use Rattle.loans.specs.Rules.Request.{lend, paint, undo, keep, cancel}
+use Rattle.loans.specs.Journals.{Event, Stroke, journal_of, lent, standing, reach_over, covers}
 use Rattle.loans.specs.Law.{OfPiece}
 use Rattle.loans.specs.Runs.{opened_state}
 
@@ -26,8 +26,8 @@ newest_over (s ∷ ss) i =
     cond (covers s i) (Some (record { loan = s.painting.loan; borrower = s.painting.borrower })) (newest_over ss i)
 
 -- who laid the newest stroke standing over the byte; no stroke's reach depends on the opening's bytes
-abbrev pub NewestPainter : Table → List Deed → List (Result ℕ Refusal) → ℕ → Option Painter → Type 0
-NewestPainter t ds rs place r = (opening : List ℕ) → r ≡ newest_over (standing t opening (history_of ds rs)) place
+abbrev pub NewestPainter : Table → List Request → List (Result ℕ Refusal) → ℕ → Option Painter → Type 0
+NewestPainter t ds rs place r = (opening : List ℕ) → r ≡ newest_over (standing t opening (journal_of ds rs)) place
 
 -- where a stroke begins: at its piece's place, row × row bytes, and first together
 abbrev pub begin_of : Table → Stroke → ℕ
@@ -59,23 +59,23 @@ PaintedBy y ss place None = All (λ s. LiesOver y.table s place → ⊥) ss
 PaintedBy y ss place (Some p) = NewestOver y ss place p
 
 -- the answers are those to a run of the calls on a job just opened on a file, with two empty shelves
-pub record IsRun (y : Layout) (number : ℕ) (file : List ℕ) (k : Stock) (ds : List Deed) (rs : List (Result ℕ Refusal)) : Type 0 where
+pub record IsRun (y : Layout) (number : ℕ) (file : List ℕ) (k : Stock) (ds : List Request) (rs : List (Result ℕ Refusal)) : Type 0 where
   pub length : length file ≡ y.table.length
   pub marks : k.marks ≡ []
   pub bytes : k.bytes ≡ []
   pub answers : rs ≡ answers_to (opened_state y number file k) ds
 
 -- the painter that is told is that of the newest stroke standing over the byte
-pub record Traced (y : Layout) (ds : List Deed) (rs : List (Result ℕ Refusal)) (place : ℕ) (r : Option Painter) : Type 0 where
+pub record Traced (y : Layout) (ds : List Request) (rs : List (Result ℕ Refusal)) (place : ℕ) (r : Option Painter) : Type 0 where
   -- after every run of calls on a job just opened, with two empty shelves
   pub run : (number : ℕ) (file : List ℕ) (k : Stock)
       → IsRun y number file k ds rs → NewestPainter y.table ds rs place r
   -- and there each stroke lies where its numbers say
   pub placed : (number : ℕ) (file : List ℕ) (k : Stock)
       → IsRun y number file k ds rs
-      → PaintedBy y (standing y.table file (history_of ds rs)) place r
+      → PaintedBy y (standing y.table file (journal_of ds rs)) place r
   -- by whatever calls and answers, as long as every loan granted is of a piece that exists
-  pub pieces : All (OfPiece y.table) (lent y.table (history_of ds rs))
+  pub pieces : All (OfPiece y.table) (lent y.table (journal_of ds rs))
       → NewestPainter y.table ds rs place r
 
 -- Read from the newest call to the oldest, an undo owes one stroke of its loan, which the next stroke of the loan pays; a cancel
@@ -97,7 +97,7 @@ owes_nothing None = false
 owes_nothing (Some k) = k == 0
 
 -- what a loan owes before a call, by what it owes after it; none where its strokes are all taken back
-abbrev pub owed_before : ℕ → Option ℕ → Deed → Result ℕ Refusal → Option ℕ
+abbrev pub owed_before : ℕ → Option ℕ → Request → Result ℕ Refusal → Option ℕ
 owed_before n o d (Err e) = o
 owed_before n o (paint p) (Ok x) = paid_off (p.loan == n) o
 owed_before n o (undo m who) (Ok x) = owing_more (m == n) o
@@ -108,7 +108,7 @@ owed_before n o d (Ok x) = o
 abbrev pub owed : ℕ → List Call → List (Result ℕ Refusal) → Option ℕ
 owed n [] rs = Some 0
 owed n (c ∷ cs) [] = Some 0
-owed n (c ∷ cs) (r ∷ rs) = owed_before n (owed n cs rs) (deed_of c) r
+owed n (c ∷ cs) (r ∷ rs) = owed_before n (owed n cs rs) (request_of c) r
 
 -- the piece that is out already, or else the one that is lent under the number; so of two in a made-up history the first
 abbrev pub unless_out : Option Piece → Bool → Piece → Option Piece
@@ -116,7 +116,7 @@ unless_out (Some q) b p = Some q
 unless_out None b p = cond b (Some p) None
 
 -- the piece of a loan that is out after a call, by that before it: it comes by its loan call, and goes by keep or cancel
-abbrev pub piece_after : ℕ → Option Piece → Deed → Result ℕ Refusal → Option Piece
+abbrev pub piece_after : ℕ → Option Piece → Request → Result ℕ Refusal → Option Piece
 piece_after n o d (Err e) = o
 piece_after n o (lend p who) (Ok x) = unless_out o (n == x) p
 piece_after n o (keep m) (Ok x) = cond (m == n) None o
@@ -138,7 +138,7 @@ abbrev pub lies_over : Area → Painting → ℕ → Bool
 lies_over a p place = reach_over (a.place + (p.row * a.row_bytes + p.first)) (length p.laid) place
 
 -- who painted by a call, where its stroke lies over the byte and stands
-abbrev pub painter_by : Table → (ℕ → Option Piece) → (ℕ → Option ℕ) → ℕ → Deed → Result ℕ Refusal → Option Painter
+abbrev pub painter_by : Table → (ℕ → Option Piece) → (ℕ → Option ℕ) → ℕ → Request → Result ℕ Refusal → Option Painter
 painter_by t pieces owes place d (Err e) = None
 painter_by t pieces owes place (paint p) (Ok x) =
     cond (lies_over (area_for t (pieces p.loan)) p place && owes_nothing (owes p.loan))
@@ -155,13 +155,13 @@ no_answer = Ok 0
 
 -- the calls before a position, written down
 abbrev pub past_of : List Call → List (Result ℕ Refusal) → ℕ → List Event
-past_of cs rs k = history_of (map deed_of (take k cs)) (take k rs)
+past_of cs rs k = journal_of (map request_of (take k cs)) (take k rs)
 
 -- the same of the call at a position
 abbrev pub painter_at : Table → List Call → List (Result ℕ Refusal) → ℕ → ℕ → Option Painter
 painter_at t cs rs k place =
     painter_by t (λ n. piece_out n (past_of cs rs k)) (λ n. owed n (drop (k + 1) cs) (drop (k + 1) rs)) place
-    (deed_of (slice_index_or cs k no_call)) (slice_index_or rs k no_answer)
+    (request_of (slice_index_or cs k no_call)) (slice_index_or rs k no_answer)
 
 -- of the calls below a position, the newest that painted so; or none did
 abbrev pub IsNewest : Table → List Call → List (Result ℕ Refusal) → ℕ → ℕ → Option Painter → Type 0

@@ -3,8 +3,8 @@
 
 ghost use Rattle.std.specs.Prelude.{◌≡◌, ◌<◌, min, map, length, take, drop, Some};
 ghost use Rattle.loans.specs.Strokes.{painting_of};
-ghost use Rattle.loans.specs.Rules.{deed_of};
-ghost use Rattle.loans.specs.History.{history_of};
+ghost use Rattle.loans.specs.Rules.{request_of};
+ghost use Rattle.loans.specs.Journals.{journal_of};
 ghost use Rattle.painters.specs.Tracing.{Traced, owed_before, owed, piece_after, piece_out, area_for, lies_over, painter_at, IsNewest};
 
 use dds::{Area, Piece};
@@ -23,7 +23,7 @@ pub struct Painter {
 // where nothing is owed. What a loan owes before a call, by what it owes after it; none where its strokes are all taken back.
 fn owed_before(owed: usize, loan: u32, call: Call<'_>, answer: Answer) -> Option<usize>
     requires { owed < 18446744073709551615 }
-    ensures { result ≡ owed_before loan (Some owed) (deed_of call.entry) answer }
+    ensures { result ≡ owed_before loan (Some owed) (request_of call.entry) answer }
 {
     match call {
         _ if answer.is_err() => Some(owed),
@@ -36,7 +36,7 @@ fn owed_before(owed: usize, loan: u32, call: Call<'_>, answer: Answer) -> Option
 
 // The piece of a loan that is out after a call, by that before it.
 fn piece_after(found: Option<Piece>, loan: u32, call: Call<'_>, answer: Answer) -> Option<Piece>
-    ensures { result ≡ piece_after loan found (deed_of call.entry) answer }
+    ensures { result ≡ piece_after loan found (request_of call.entry) answer }
 {
     let Ok(given) = answer else {
         return found;
@@ -69,12 +69,12 @@ fn area_for(job: &Job, piece: Option<Piece>) -> Area
 
 // Calls and what they answered, place by place: two lists, since a run takes the one and gives the other.
 #[derive(Clone, Copy)]
-struct History<'a> {
+struct Journal<'a> {
     calls: &'a [Call<'a>],
     answers: &'a [Answer],
 }
 
-impl History<'_> {
+impl Journal<'_> {
     // How many calls have an answer.
     fn count(&self) -> usize
         ensures { result ≡ min (length self.now.calls.now) (length self.now.answers.now) }
@@ -97,8 +97,8 @@ impl History<'_> {
 
     // The piece of the loan of a number that is out before the call at a position.
     fn piece_before(&self, position: usize, loan: u32) -> Option<Piece>
-        ensures { result ≡ piece_out loan (history_of
-            (map deed_of (take position self.now.calls.now))
+        ensures { result ≡ piece_out loan (journal_of
+            (map request_of (take position self.now.calls.now))
             (take position self.now.answers.now)) }
     {
         self.calls.iter().zip(self.answers).take(position).fold(
@@ -147,9 +147,9 @@ impl History<'_> {
 /// last call that painted over the byte and is not taken back, where a stroke of a loan that is not out, or whose piece does not exist,
 /// begins at the file's byte `first`.
 pub fn painter_of(job: &Job, calls: &[Call<'_>], answers: &[Answer], place: u64) -> Option<Painter>
-    ensures traced { Traced job.now.layout (map deed_of calls.now) answers.now place result }
+    ensures traced { Traced job.now.layout (map request_of calls.now) answers.now place result }
     ensures exact { IsNewest job.now.layout.table calls.now answers.now place
         (min (length calls.now) (length answers.now)) result }
 {
-    History { calls, answers }.newest_painter(job, place)
+    Journal { calls, answers }.newest_painter(job, place)
 }

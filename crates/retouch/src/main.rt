@@ -48,8 +48,8 @@ enum Fault {
 }
 
 // A file's name and its length.
-fn tell_file(told: &mut String, deed: &str, name: &str, length: usize) -> Result<(), AllocError> {
-    writeln!(told, "{deed} {name}: {length} bytes")
+fn tell_file(told: &mut String, request: &str, name: &str, length: usize) -> Result<(), AllocError> {
+    writeln!(told, "{request} {name}: {length} bytes")
 }
 
 // Makes the calls, and tells each with its answer; the longest of them has 54 characters.

@@ -4,13 +4,13 @@ use Rattle.refusal.specs.declared.Refusal.{Refusal}
 use Rattle.refusal.specs.Meanings.{refusal_text}
 use Rattle.dds.specs.declared.piece.Piece.{Piece}
 use Rattle.dds.specs.Texts.{piece_text}
-use Rattle.loans.specs.Rules.{Deed}
-use Rattle.loans.specs.Rules.Deed.{lend, paint, undo, keep, cancel}
+use Rattle.loans.specs.Rules.{Request}
+use Rattle.loans.specs.Rules.Request.{lend, paint, undo, keep, cancel}
 use Rattle.painters.specs.declared.Painter.{Painter}
 use Rattle.trace.specs.declared.traced.TracedChange.{TracedChange}
 
 -- a call in words
-abbrev pub call_text : Deed → List ℕ
+abbrev pub call_text : Request → List ℕ
 call_text (lend p who) = codes "loan of piece " ++ (piece_text p ++ (codes " to borrower " ++ decimal who))
 call_text (paint p) =
     codes "paint in loan " ++ (decimal p.loan ++ (codes " by borrower " ++ (decimal p.borrower
@@ -21,7 +21,7 @@ call_text (keep n) = codes "keep of loan " ++ decimal n
 call_text (cancel n) = codes "cancel of loan " ++ decimal n
 
 -- what the number of an answer counts
-abbrev pub counted_by : Deed → List ℕ
+abbrev pub counted_by : Request → List ℕ
 counted_by (lend p who) = codes "loan"
 counted_by (paint p) = codes "undoable"
 counted_by (undo n who) = codes "undoable"
@@ -29,7 +29,7 @@ counted_by (keep n) = codes "out"
 counted_by (cancel n) = codes "out"
 
 -- an answer to a call in words
-abbrev pub answer_text : Deed → Result ℕ Refusal → List ℕ
+abbrev pub answer_text : Request → Result ℕ Refusal → List ℕ
 answer_text d (Ok n) = counted_by d ++ (codes " " ++ decimal n)
 answer_text d (Err e) = refusal_text e
 

@@ -5,7 +5,7 @@ use Rattle.dds.specs.declared.piece.Piece.{Piece}
 use Rattle.dds.specs.Places.{WhoseIs}
 use Rattle.loans.specs.declared.call.Call.{Call}
 use Rattle.loans.specs.declared.job.Job.{Job}
-use Rattle.loans.specs.Rules.{deed_of}
+use Rattle.loans.specs.Rules.{request_of}
 use Rattle.painters.specs.Tracing.{Traced, IsNewest}
 use Rattle.trace.specs.declared.change.Change.{Change}
 use Rattle.trace.specs.declared.traced.TracedChange.{TracedChange}
@@ -18,7 +18,7 @@ pub record TracedSo (job : Job) (calls : List Call) (answers : List (Result ℕ 
   -- whose its first byte is, as the job's layout has it
   pub owner : WhoseIs job.layout c.place (Ok t.owner)
   -- who painted it, after a run of the calls
-  pub painter : Traced job.layout (map deed_of calls) answers c.place t.painter
+  pub painter : Traced job.layout (map request_of calls) answers c.place t.painter
   -- and by whatever calls and answers
   pub exact : IsNewest job.layout.table calls answers c.place
       (min (length calls) (length answers)) t.painter

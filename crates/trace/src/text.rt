@@ -1,6 +1,6 @@
 // Calls, answers and changes in words.
 ghost use Rattle.std.specs.Prelude.{◌≡◌, Some};
-ghost use Rattle.loans.specs.Rules.{deed_of};
+ghost use Rattle.loans.specs.Rules.{request_of};
 ghost use Rattle.trace.specs.Texts.{call_text, answer_text, counted_by, owned_text, painted_text, change_text};
 
 use crate::change::Change;
@@ -15,7 +15,7 @@ use std::fmt;
 pub struct CallText<'a>(pub Call<'a>);
 
 impl fmt::Display for CallText<'_> {
-    ghost output = { λ text. Some (call_text (deed_of text.0)) };
+    ghost output = { λ text. Some (call_text (request_of text.0)) };
 
     fn fmt<W: fmt::Write>(&self, f: &mut fmt::Formatter<W>) -> fmt::Result {
         match self.0 {
@@ -50,7 +50,7 @@ pub struct AnswerText<'a>(pub Call<'a>, pub Answer);
 
 // What the number of an answer counts.
 fn counted_by(call: Call<'_>) -> &'static str
-    ensures { result.now ≡ counted_by (deed_of call.entry) }
+    ensures { result.now ≡ counted_by (request_of call.entry) }
 {
     match call {
         Call::Loan { .. } => "loan",
@@ -60,7 +60,7 @@ fn counted_by(call: Call<'_>) -> &'static str
 }
 
 impl fmt::Display for AnswerText<'_> {
-    ghost output = { λ text. Some (answer_text (deed_of text.0) text.1) };
+    ghost output = { λ text. Some (answer_text (request_of text.0) text.1) };
 
     fn fmt<W: fmt::Write>(&self, f: &mut fmt::Formatter<W>) -> fmt::Result {
         match self.1 {

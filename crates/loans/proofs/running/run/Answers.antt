@@ -4,7 +4,7 @@ use Rattle.std.proofs.lemmas.Result.{err_from_is_err_and}
 use Rattle.dds.specs.declared.source.FormatSource.TheVariants.{HandedIn}
 use Rattle.dds.specs.Readings.{Reading}
 use Rattle.dds.specs.Layouts.{Opened}
-use Rattle.loans.specs.Rules.{deed_of}
+use Rattle.loans.specs.Rules.{request_of}
 use Rattle.loans.proofs.RunMade.{opened_along, run_made}
 use Rattle.loans.proofs.running.run.Goals as goal
 
@@ -24,7 +24,7 @@ returns-then-capacity-len g c = (
     subst (λ (x : Reading). Opened x HandedIn (g.F.Family.row_bytes c.args.family.now) (g.F.Family.rows c.args.family.now) (Ok c.in_ok-layout.layout))
         c.of.ensures c.in_ok-layout.ensures,
   ),
-  omega (arith, length-map c.args.calls.now deed_of),
+  omega (arith, length-map c.args.calls.now request_of),
   (refl, refl, refl, refl),
 )
 
@@ -39,7 +39,7 @@ call_all-requires-clause-along g c =
       row_bytes = g.F.Family.row_bytes c.args.family.now;
       rows = g.F.Family.rows c.args.family.now;
       shelves = c.args.shelves.now;
-      calls = map deed_of c.args.calls.now;
+      calls = map request_of c.args.calls.now;
       old = vec_items c.args.answers.now;
       room = vec_capacity c.args.answers.now;
     }) c.fresh-opened.result c.in_ok-layout.layout opened c.fresh-opened.ensures
@@ -51,4 +51,4 @@ returns g c =
     subst (λ (x : Reading). Opened x HandedIn (g.F.Family.row_bytes c.args.family.now) (g.F.Family.rows c.args.family.now) (Ok c.in_ok-layout.layout))
     c.of.ensures c.in_ok-layout.ensures in
     run_made _ c.fresh-opened.result c.in_ok-layout.layout opened c.fresh-opened.ensures
-    c.of-2.result c.of-2.ensures (omega (arith, length-map c.args.calls.now deed_of, c.capacity.ensures, c.len.ensures)) _ _ _ refl c.call_all.ensures
+    c.of-2.result c.of-2.ensures (omega (arith, length-map c.args.calls.now request_of, c.capacity.ensures, c.len.ensures)) _ _ _ refl c.call_all.ensures

@@ -1,6 +1,6 @@
 use Rattle.std.proofs.Common.{◌++◌, length, map, rules, tests, arith, sym, ap, ◌∙◌}
 use Rattle.std.proofs.lemmas.Iterator.Splits.{YieldsList-from_slice_split}
-use Rattle.orders.specs.Reading.{is_space}
+use Rattle.orders.specs.steps.Reading.{is_space}
 use Rattle.orders.specs.Words.{now_of}
 use Rattle.orders.proofs.Yielding.{drained, more_than, said_ok, said_err}
 use Rattle.orders.proofs.order.words.Goals as goal

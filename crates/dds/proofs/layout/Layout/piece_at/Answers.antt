@@ -2,7 +2,7 @@ use Rattle.std.proofs.Common.{◌-◌, ◌/◌, ◌%◌, Ok, Some, None, inl, in
 use Rattle.dds.specs.declared.layout.Layout.{Layout}
 use Rattle.dds.specs.declared.piece.Piece.{Piece}
 use Rattle.dds.specs.Places.{WhoseIs}
-use Rattle.dds.specs.Spots.{SpotOf}
+use Rattle.dds.specs.steps.Spots.{SpotOf}
 use Rattle.dds.proofs.Placing.{tiled}
 use Rattle.dds.proofs.Spotting.{owner_at, nobody_at}
 use Rattle.dds.proofs.layout.Layout.piece_at.Goals as goal

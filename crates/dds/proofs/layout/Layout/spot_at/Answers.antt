@@ -1,7 +1,7 @@
 use Rattle.std.proofs.Common.{◌+◌, ◌-◌, ◌/◌, ◌%◌, ◌<◌, ◌≤◌, get_or, sym, subst}
 use Rattle.dds.specs.declared.layout.Layout.{Layout}
 use Rattle.dds.specs.declared.spot.Spot.{Spot}
-use Rattle.dds.specs.Spots.{SpotOf}
+use Rattle.dds.specs.steps.Spots.{SpotOf}
 use Rattle.dds.specs.Tables.{blank}
 use Rattle.dds.proofs.Spotting.{spotted}
 use Rattle.dds.proofs.layout.Layout.spot_at.Goals as goal

@@ -1,6 +1,6 @@
 use Rattle.std.proofs.Common.{◌<◌, List, length, get_or, ap, arith}
 use Rattle.loans.specs.declared.loan.Loan.{Loan}
-use Rattle.loans.specs.Books.{no_loan}
+use Rattle.loans.specs.Ledgers.{no_loan}
 use Rattle.loans.proofs.Scrapped.{cancelled_one}
 use Rattle.loans.proofs.job.Job.cancel_all.Goals as goal
 

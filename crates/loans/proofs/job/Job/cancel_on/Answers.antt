@@ -1,10 +1,10 @@
 use Rattle.std.proofs.Common.{◌≡◌, ℕ, List, length, sym, ◌∙◌, subst, ap₂, subst₂}
 use Rattle.std.proofs.lemmas.Bool.{eqb-true}
 use Rattle.loans.specs.declared.mark.Mark.{Mark}
-use Rattle.loans.specs.Finding.{Found}
-use Rattle.loans.specs.Ending.{InFile, restored}
+use Rattle.loans.specs.steps.Finding.{Found}
+use Rattle.loans.specs.LoanEnds.{InFile, restored}
 use Rattle.loans.proofs.Undone.{marks_in_file}
-use Rattle.loans.proofs.Endings.{cancel_carried}
+use Rattle.loans.proofs.EndedBooks.{cancel_carried}
 use Rattle.loans.proofs.Handed.{cancelled_handed}
 use Rattle.loans.proofs.job.Job.cancel_on.Goals as goal
 
@@ -19,7 +19,7 @@ returns-clause-rule c =
     cancel_carried (record {
       orderly = c.position_of.ensures.orderly;
       loan = subst (Found c.args.self.now.outs c.args.loan) c.in_ok-position.ensures.ok_part c.position_of.ensures.found;
-      ours = sym c.if-not-owns_or_knows.ensures;
+      own_shelves = sym c.if-not-owns_or_knows.ensures;
       shelves = c.drop_loan.ensures;
       book = c.end_loan.ensures.book;
       answer = c.end_loan.ensures.left;

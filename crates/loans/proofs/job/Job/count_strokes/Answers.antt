@@ -1,6 +1,6 @@
 use Rattle.std.proofs.Common.{◌<◌, length, ap, ◌∙◌, arith}
-use Rattle.loans.specs.Jobs.{Book}
-use Rattle.loans.specs.Writing.{book_counted}
+use Rattle.loans.specs.Books.{Book}
+use Rattle.loans.specs.steps.Writing.{book_counted}
 use Rattle.loans.proofs.Counting.{out_count}
 use Rattle.loans.proofs.Recounting.{counted_in_order, counted_in}
 use Rattle.loans.proofs.job.Job.count_strokes.Goals as goal

@@ -1,6 +1,6 @@
 use Rattle.std.proofs.Common.{[], sym, subst}
-use Rattle.loans.specs.Finding.{Found}
-use Rattle.loans.proofs.Endings.{keep_carried}
+use Rattle.loans.specs.steps.Finding.{Found}
+use Rattle.loans.proofs.EndedBooks.{keep_carried}
 use Rattle.loans.proofs.Handed.{kept_handed}
 use Rattle.loans.proofs.job.Job.keep_on.Goals as goal
 
@@ -9,7 +9,7 @@ returns-clause-rule c f =
     keep_carried (record {
       orderly = c.position_of.ensures.orderly;
       loan = subst (Found c.args.self.now.outs c.args.loan) c.in_ok-position.ensures.ok_part c.position_of.ensures.found;
-      ours = sym c.if-not-owns_or_knows.ensures;
+      own_shelves = sym c.if-not-owns_or_knows.ensures;
       shelves = c.drop_loan.ensures;
       book = c.end_loan.ensures.book;
       answer = c.end_loan.ensures.left;

@@ -1,7 +1,7 @@
 use Rattle.std.proofs.Common.{List, Option, ◌∙◌, subst₂}
 use Rattle.loans.specs.declared.mark.Mark.{Mark}
 use Rattle.loans.specs.declared.newest.Newest.{Newest}
-use Rattle.loans.specs.Taking.{FoundNewest}
+use Rattle.loans.specs.steps.Taking.{FoundNewest}
 use Rattle.loans.proofs.Undone.{undo_at}
 use Rattle.loans.proofs.job.Job.last_stroke.Goals as goal
 

@@ -1,7 +1,7 @@
 use Rattle.std.proofs.Common.{Ok, sym, ap, ◌∙◌, subst}
 use Rattle.dds.specs.Readings.{Reading, reading_of}
 use Rattle.dds.specs.Layouts.{OpenedBy}
-use Rattle.loans.specs.Jobs.{Book}
+use Rattle.loans.specs.Books.{Book}
 use Rattle.loans.proofs.Opened.{length_by_codes}
 use Rattle.loans.proofs.job.Job.open.Goals as goal
 

@@ -1,6 +1,6 @@
 use Rattle.std.proofs.Common.{length, sym, ap, ◌∙◌, subst}
-use Rattle.loans.specs.Books.{NumbersRise}
-use Rattle.loans.specs.Jobs.{Book}
+use Rattle.loans.specs.Ledgers.{NumbersRise}
+use Rattle.loans.specs.Books.{Book}
 use Rattle.loans.proofs.Owning.{owned}
 use Rattle.loans.proofs.job.Job.owns.Goals as goal
 

@@ -7,7 +7,7 @@ use Rattle.loans.proofs.job.Job.paint_on.Goals as goal
 pub returns : goal.returns
 returns c =
     paint_carried {p = painting_of c.args.painting} (record {
-      tested = c.in_ok-spot.ensures;
+      tested = c.in_ok-target.ensures;
       shelved = c.shelve.ensures;
       laid = c.lay.ensures;
       strokes = ap (λ (l : Loan). l.strokes) c.loan_at-strokes.ensures.value;

@@ -1,7 +1,7 @@
 use Rattle.std.proofs.Common.{sym, ◌∙◌, arith}
 use Rattle.painters.specs.Tracing.{no_call, no_answer}
 use Rattle.painters.proofs.Painters.{shorter, owed_last, owed_gone, owed_there}
-use Rattle.painters.proofs.History.owed_from.Goals as goal
+use Rattle.painters.proofs.Journal.owed_from.Goals as goal
 
 pub loop-position-init : goal.loop-position-init
 loop-position-init c =

@@ -2,13 +2,13 @@
 use Rattle.std.specs.Prelude.{◌≡◌, ℕ, ◌<◌, Bool, true, false, ◌&&◌, List, [], ◌∷◌, length, Some, None, Option, ◌==◌, slice_index, slice_index_or}
 use Rattle.loans.specs.declared.loan.Loan.{Loan}
 use Rattle.loans.specs.declared.mark.Mark.{Mark}
-use Rattle.loans.specs.Books.{no_loan}
+use Rattle.loans.specs.Ledgers.{no_loan}
 use Rattle.loans.specs.Stocks.{marks_of, lengths, is_sound, all_sound}
-use Rattle.loans.specs.Finding.{StandsAt}
+use Rattle.loans.specs.steps.Finding.{IsAt}
 
 -- the position of a sound mark's loan
 abbrev pub SoundAt : List Loan → Mark → Option ℕ → Type 0
-SoundAt ls m (Some k) = (is_sound ls m ≡ true) × StandsAt ls m.loan k
+SoundAt ls m (Some k) = (is_sound ls m ≡ true) × IsAt ls m.loan k
 SoundAt ls m None = is_sound ls m ≡ false
 
 -- how many marks the loan at each position has, where all marks are sound and together cover so many bytes

@@ -5,7 +5,7 @@ use Rattle.shelf.specs.Runs.{slid_down}
 use Rattle.loans.specs.declared.mark.Mark.{Mark}
 use Rattle.loans.specs.declared.amount.Amount.{Amount}
 use Rattle.loans.specs.Stocks.{Stock, of_loan, lengths}
-use Rattle.loans.specs.Taking.{no_mark}
+use Rattle.loans.specs.steps.Taking.{no_mark}
 
 -- the marks begin with so many that are not the loan's, and one of the loan is next, or none
 pub record Leads (ms : List Mark) (n : ℕ) (run : Amount) : Type 0 where

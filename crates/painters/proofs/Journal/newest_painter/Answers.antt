@@ -1,7 +1,7 @@
 use Rattle.std.proofs.Common.{subst, rules}
 use Rattle.painters.specs.Tracing.{painter_at, IsNewest}
 use Rattle.painters.proofs.Walks.{counted_rev, found_below}
-use Rattle.painters.proofs.History.newest_painter.Goals as goal
+use Rattle.painters.proofs.Journal.newest_painter.Goals as goal
 
 pub returns : goal.returns
 returns c =

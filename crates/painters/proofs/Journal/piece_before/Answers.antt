@@ -4,7 +4,7 @@ use Rattle.std.proofs.lemmas.Iterator.{YieldsList-from_slice, YieldsList-from_zi
 use Rattle.std.proofs.iter.Yields.{fronts}
 use Rattle.std.specs.Iterator.Adapters.{take_steps}
 use Rattle.painters.proofs.Painters.{folded, folded_more, piece_folded}
-use Rattle.painters.proofs.History.piece_before.Goals as goal
+use Rattle.painters.proofs.Journal.piece_before.Goals as goal
 
 pub returns : goal.returns
 returns c =

@@ -12,18 +12,18 @@ use Rattle.dds.specs.declared.table.Table.{Table}
 use Rattle.dds.specs.Places.{area_in, exists_in}
 use Rattle.loans.specs.declared.loan.Loan.{Loan}
 use Rattle.loans.specs.Lists.{less_first, less_all}
-use Rattle.loans.specs.Books.{no_loan}
+use Rattle.loans.specs.Ledgers.{no_loan}
 use Rattle.loans.specs.Lending.{granting, piece_is_out}
 use Rattle.loans.specs.Stocks.{is_number, is_out, the_loan}
 use Rattle.loans.specs.Strokes.{Painting}
-use Rattle.loans.specs.History.{Stroke, stroke_of, stroke_length, covers, laying, undoable}
+use Rattle.loans.specs.Journals.{Stroke, stroke_of, stroke_length, covers, laying, undoable}
 use Rattle.loans.specs.Law.{NumberedFromOne, OfPiece, Spans, Apart, InRow}
-use Rattle.loans.proofs.Listed.{Among, among_from, all_of, all_among, Split, all_less_first, kept_by_same, among_kept_by, some_of_push}
+use Rattle.loans.proofs.Listed.{Among, among_from, all_of, all_among, Split, all_less_first, filter_same_on, among_filter, some_of_push}
 use Rattle.loans.proofs.Underneath.{covers_parts}
 use Rattle.loans.proofs.Lawful.{Lawful}
 use Rattle.loans.proofs.Soundness.{Spares, Sized, Sound, sound_fewer}
-use Rattle.loans.proofs.Shelved.{all_below, Even, undoable_cons, undoable_all, Fewer, fewer_kept, fewer_undone, sound_undone, cancel_file}
-use Rattle.loans.proofs.Outs.{the_out, piece_free, out_less, undoable_kept, undoable_cancelled, Rising, rising_push, rising_kept, numbered_known}
+use Rattle.loans.proofs.Shelved.{all_below, Even, undoable_cons, undoable_all, Fewer, fewer_filter, fewer_undone, sound_undone, cancel_file}
+use Rattle.loans.proofs.Outs.{the_out, piece_free, out_less, undoable_kept, undoable_cancelled, Rising, rising_push, rising_filter, numbered_known}
 
 -- a loan that is out
 pub record Lent (t : Table) (ls : List Loan) (o : Loan) : Type 0 where
@@ -52,7 +52,7 @@ pub record FitsShelves (mm mb : ℕ) (ss : List Stroke) : Type 0 where
   pub bytes : length (all_below ss) ≤ mb
 
 -- of the loans ever granted, the loans out and the strokes that stand
-pub record Good (t : Table) (mm mb : ℕ) (opening : List ℕ) (ls os : List Loan) (ss : List Stroke) : Type 0 where
+pub record Invariant (t : Table) (mm mb : ℕ) (opening : List ℕ) (ls os : List Loan) (ss : List Stroke) : Type 0 where
   pub numbers : NumberedFromOne ls
   pub pieces : All (OfPiece t) ls
   pub lent : All (Lent t ls) os
@@ -111,13 +111,13 @@ module _ (ls : List Loan) (numbers : NumberedFromOne ls) (new : Loan) (fresh : n
   rows_old ss h = All-weaker (InRow ls) (InRow (new ∷ ls)) (λ s r. row_in ls (new ∷ ls) s (sym (loan_same s.painting.loan r.lent)) (known_old s.painting.loan r.lent) r) ss h
 
 module _ (t : Table) (mm mb : ℕ) (opening : List ℕ) where
-  pub good_none : Good t mm mb opening [] [] []
-  good_none = record { numbers = tt; pieces = All-nil (OfPiece t); lent = All-nil (Lent t []); once = tt; single = λ a b m. absurd m; laid = All-nil (Laid opening []); sound = tt; fits = record { marks = omega arith; bytes = omega arith } }
+  pub invariant_none : Invariant t mm mb opening [] [] []
+  invariant_none = record { numbers = tt; pieces = All-nil (OfPiece t); lent = All-nil (Lent t []); once = tt; single = λ a b m. absurd m; laid = All-nil (Laid opening []); sound = tt; fits = record { marks = omega arith; bytes = omega arith } }
 
-  module _ (ls os : List Loan) (ss : List Stroke) (good : Good t mm mb opening ls os ss) where
+  module _ (ls os : List Loan) (ss : List Stroke) (invariant : Invariant t mm mb opening ls os ss) where
     -- of a loan that is out
     pub out_lent : (n : ℕ) → is_out os n ≡ true → Lent t ls (the_loan os n)
-    out_lent n h = all_among (Lent t ls) os _ good.lent (the_out os n h).0
+    out_lent n h = all_among (Lent t ls) os _ invariant.lent (the_out os n h).0
 
     pub out_known : (n : ℕ) → is_out os n ≡ true → is_out ls n ≡ true
     out_known n h = subst (λ m. is_out ls m ≡ true) (the_out os n h).1 (out_lent n h).known
@@ -126,15 +126,15 @@ module _ (t : Table) (mm mb : ℕ) (opening : List ℕ) where
     loan_known n h = ap (the_loan ls) (sym (the_out os n h).1) ∙ (out_lent n h).traced
 
     pub all_even : All Even (undoable os ss)
-    all_even = undoable_all os Even ss (All-weaker (Laid opening ls) Even (λ s r. r.sized.0) ss good.laid)
+    all_even = undoable_all os Even ss (All-weaker (Laid opening ls) Even (λ s r. r.sized.0) ss invariant.laid)
 
     -- no byte lies in the spans of two loans out
     one_spans : Lawful t (length opening) → (place : ℕ) (a b : Loan) → Among os a → Among os b → Spans a place → Spans b place → a ≡ b
     one_spans lawful place a b m m' v w =
-        let p = (all_among (Lent t ls) os a good.lent m).of_piece in
-        let q = (all_among (Lent t ls) os b good.lent m').of_piece in
+        let p = (all_among (Lent t ls) os a invariant.lent m).of_piece in
+        let q = (all_among (Lent t ls) os b invariant.lent m').of_piece in
         let In : ℕ → Area → Type 0 = λ i r. (r.place ≤ i) × (i < r.place + r.length) in
-        good.single a b m m' (lawful.apart a.piece b.piece place p.0 q.0 (subst (In place) p.1 v) (subst (In place) q.1 w))
+        invariant.single a b m m' (lawful.apart a.piece b.piece place p.0 q.0 (subst (In place) p.1 v) (subst (In place) q.1 w))
 
     pub outs_apart : Lawful t (length opening) → Apart os
     outs_apart lawful place a b m m' = one_spans lawful place a b (among_from os a m) (among_from os b m')
@@ -145,13 +145,13 @@ module _ (t : Table) (mm mb : ℕ) (opening : List ℕ) where
       new = granting (length ls + 1) p who (area_in t p)
 
       out_same : (m : ℕ) → is_out ls m ≡ true → is_out (os ++ new ∷ []) m ≡ is_out os m
-      out_same m h = some_of_push (is_number m) os new (other ls good.numbers new refl m h)
+      out_same m h = some_of_push (is_number m) os new (other ls invariant.numbers new refl m h)
 
       lent_old : (o : Loan) → Lent t ls o → Lent t (new ∷ ls) o
       lent_old o r = record {
-        known = known_old ls good.numbers new refl o.number r.known;
+        known = known_old ls invariant.numbers new refl o.number r.known;
         of_piece = r.of_piece;
-        traced = loan_same ls good.numbers new refl o.number r.known ∙ r.traced;
+        traced = loan_same ls invariant.numbers new refl o.number r.known ∙ r.traced;
       }
 
       lent_new : Lent t (new ∷ ls) new
@@ -164,7 +164,7 @@ module _ (t : Table) (mm mb : ℕ) (opening : List ℕ) where
           let k = r.inside.lent in
           let n : ℕ = s.painting.loan in
           record {
-            inside = inside_in ls (new ∷ ls) s (sym (loan_same ls good.numbers new refl n k)) (known_old ls good.numbers new refl n k) r.inside;
+            inside = inside_in ls (new ∷ ls) s (sym (loan_same ls invariant.numbers new refl n k)) (known_old ls invariant.numbers new refl n k) r.inside;
             sized = r.sized;
           }
 
@@ -172,24 +172,24 @@ module _ (t : Table) (mm mb : ℕ) (opening : List ℕ) where
       single_loan a b m m' e = go (among_push os new a m) (among_push os new b m')
         where
           go : Among os a ⊎ (a ≡ new) → Among os b ⊎ (b ≡ new) → a ≡ b
-          go (inl u) (inl v) = good.single a b u v e
+          go (inl u) (inl v) = invariant.single a b u v e
           go (inl u) (inr v) = absurd (piece_free os p a free u (e ∙ ap (λ (o : Loan). o.piece) v))
           go (inr u) (inl v) = absurd (piece_free os p b free v (sym e ∙ ap (λ (o : Loan). o.piece) u))
           go (inr u) (inr v) = u ∙ sym v
 
       pub undoable_lent : undoable (os ++ new ∷ []) ss ≡ undoable os ss
-      undoable_lent = ap reverse (kept_by_same _ _ ss (All-weaker (Laid opening ls) _ (λ s r. out_same s.painting.loan r.inside.lent) ss good.laid))
+      undoable_lent = ap reverse (filter_same_on _ _ ss (All-weaker (Laid opening ls) _ (λ s r. out_same s.painting.loan r.inside.lent) ss invariant.laid))
 
-      pub good_lent : Good t mm mb opening (new ∷ ls) (os ++ new ∷ []) ss
-      good_lent = record {
-        numbers = (refl, good.numbers);
-        pieces = All-cons (OfPiece t) new ls (there, refl) good.pieces;
-        lent = All-push (Lent t (new ∷ ls)) os new (All-weaker (Lent t ls) (Lent t (new ∷ ls)) lent_old os good.lent) lent_new;
-        once = rising_push os new good.once (All-weaker (Lent t ls) (λ (o : Loan). o.number < length ls + 1) (λ o r. let a = numbered_known ls o.number good.numbers r.known in omega arith) os good.lent);
+      pub invariant_lent : Invariant t mm mb opening (new ∷ ls) (os ++ new ∷ []) ss
+      invariant_lent = record {
+        numbers = (refl, invariant.numbers);
+        pieces = All-cons (OfPiece t) new ls (there, refl) invariant.pieces;
+        lent = All-push (Lent t (new ∷ ls)) os new (All-weaker (Lent t ls) (Lent t (new ∷ ls)) lent_old os invariant.lent) lent_new;
+        once = rising_push os new invariant.once (All-weaker (Lent t ls) (λ (o : Loan). o.number < length ls + 1) (λ o r. let a = numbered_known ls o.number invariant.numbers r.known in omega arith) os invariant.lent);
         single = single_loan;
-        laid = All-weaker (Laid opening ls) (Laid opening (new ∷ ls)) laid_old ss good.laid;
-        sound = sound_fewer opening os (os ++ new ∷ []) ss (All-weaker (Laid opening ls) _ (λ s r. subst (λ b. b ≡ true) (out_same s.painting.loan r.inside.lent)) ss good.laid) good.sound;
-        fits = subst (FitsShelves mm mb) (sym undoable_lent) good.fits;
+        laid = All-weaker (Laid opening ls) (Laid opening (new ∷ ls)) laid_old ss invariant.laid;
+        sound = sound_fewer opening os (os ++ new ∷ []) ss (All-weaker (Laid opening ls) _ (λ s r. subst (λ b. b ≡ true) (out_same s.painting.loan r.inside.lent)) ss invariant.laid) invariant.sound;
+        fits = subst (FitsShelves mm mb) (sym undoable_lent) invariant.fits;
       }
 
     -- a stroke painted
@@ -257,35 +257,35 @@ module _ (t : Table) (mm mb : ℕ) (opening : List ℕ) where
               let y = a.1 in
               subst (λ (l : Loan). Spans l i) (loan_known k.painting.loan o') (omega arith, omega arith)
 
-      pub good_paint : length (undoable os ss) < mm → length (all_below (undoable os ss)) + length p.laid ≤ mb → Good t mm mb opening ls os (stroke ∷ ss)
-      good_paint one_more more =
+      pub invariant_paint : length (undoable os ss) < mm → length (all_below (undoable os ss)) + length p.laid ≤ mb → Invariant t mm mb opening ls os (stroke ∷ ss)
+      invariant_paint one_more more =
           let all : all_below (undoable os ss) ++ stroke.below ≡ all_below (undoable os ss ++ stroke ∷ []) = flat_map_more (λ (k : Stroke). k.below) [] (undoable os ss) stroke in
           let long = ap length all in
           let parts = length-append (all_below (undoable os ss)) stroke.below in
           let same = laying_laid.sized.0 in
           let pushed = length_push (undoable os ss) stroke in
           record {
-            numbers = good.numbers;
-            pieces = good.pieces;
-            lent = good.lent;
-            once = good.once;
-            single = good.single;
-            laid = All-cons (Laid opening ls) stroke ss laying_laid good.laid;
-            sound = (λ o. refl, All-weaker (Laid opening ls) (Spares os stroke) spares ss good.laid, good.sound);
+            numbers = invariant.numbers;
+            pieces = invariant.pieces;
+            lent = invariant.lent;
+            once = invariant.once;
+            single = invariant.single;
+            laid = All-cons (Laid opening ls) stroke ss laying_laid invariant.laid;
+            sound = (λ o. refl, All-weaker (Laid opening ls) (Spares os stroke) spares ss invariant.laid, invariant.sound);
             fits = subst (FitsShelves mm mb) (sym (undoable_cons os stroke ss out)) (record { marks = omega arith; bytes = omega arith });
           }
 
     -- the newest stroke of a loan taken back
-    pub good_undo : (n : ℕ) → is_out os n ≡ true → Split (stroke_of n) ss → Good t mm mb opening ls os (less_first (stroke_of n) ss)
-    good_undo n out s = record {
-      numbers = good.numbers;
-      pieces = good.pieces;
-      lent = good.lent;
-      once = good.once;
-      single = good.single;
-      laid = all_less_first (stroke_of n) (Laid opening ls) ss good.laid;
-      sound = sound_undone os opening n out ss s good.sound;
-      fits = fits_fewer mm mb _ _ (fewer_undone os opening n out ss s) good.fits;
+    pub invariant_undo : (n : ℕ) → is_out os n ≡ true → Split (stroke_of n) ss → Invariant t mm mb opening ls os (less_first (stroke_of n) ss)
+    invariant_undo n out s = record {
+      numbers = invariant.numbers;
+      pieces = invariant.pieces;
+      lent = invariant.lent;
+      once = invariant.once;
+      single = invariant.single;
+      laid = all_less_first (stroke_of n) (Laid opening ls) ss invariant.laid;
+      sound = sound_undone os opening n out ss s invariant.sound;
+      fits = fits_fewer mm mb _ _ (fewer_undone os opening n out ss s) invariant.fits;
     }
 
     -- a loan ended
@@ -294,34 +294,34 @@ module _ (t : Table) (mm mb : ℕ) (opening : List ℕ) where
       still_out m h = (and_parts _ _ (sym (out_less os n m) ∙ h)).0
 
       lent_end : All (Lent t ls) (less_all (is_number n) os)
-      lent_end = All-filter (λ o. not (is_number n o)) (Lent t ls) os good.lent
+      lent_end = All-filter (λ o. not (is_number n o)) (Lent t ls) os invariant.lent
 
       single_end : Single (less_all (is_number n) os)
-      single_end a b u v = good.single a b (among_kept_by _ os a u).0 (among_kept_by _ os b v).0
+      single_end a b u v = invariant.single a b (among_filter _ os a u).0 (among_filter _ os b v).0
 
       fits_end : FitsShelves mm mb (undoable (less_all (is_number n) os) ss)
-      fits_end = subst (FitsShelves mm mb) (sym (undoable_kept os n ss)) (fits_fewer mm mb _ _ (fewer_kept (λ s. not (stroke_of n s)) (undoable os ss)) good.fits)
+      fits_end = subst (FitsShelves mm mb) (sym (undoable_kept os n ss)) (fits_fewer mm mb _ _ (fewer_filter (λ s. not (stroke_of n s)) (undoable os ss)) invariant.fits)
 
-      pub good_keep : Good t mm mb opening ls (less_all (is_number n) os) ss
-      good_keep = record {
-        numbers = good.numbers;
-        pieces = good.pieces;
+      pub invariant_keep : Invariant t mm mb opening ls (less_all (is_number n) os) ss
+      invariant_keep = record {
+        numbers = invariant.numbers;
+        pieces = invariant.pieces;
         lent = lent_end;
-        once = rising_kept (λ o. not (is_number n o)) os good.once;
+        once = rising_filter (λ o. not (is_number n o)) os invariant.once;
         single = single_end;
-        laid = good.laid;
-        sound = sound_fewer opening os _ ss (all_of _ (λ s. still_out s.painting.loan) ss) good.sound;
+        laid = invariant.laid;
+        sound = sound_fewer opening os _ ss (all_of _ (λ s. still_out s.painting.loan) ss) invariant.sound;
         fits = fits_end;
       }
 
-      pub good_cancel : is_out os n ≡ true → Good t mm mb opening ls (less_all (is_number n) os) (less_all (stroke_of n) ss)
-      good_cancel out = record {
-        numbers = good.numbers;
-        pieces = good.pieces;
+      pub invariant_cancel : is_out os n ≡ true → Invariant t mm mb opening ls (less_all (is_number n) os) (less_all (stroke_of n) ss)
+      invariant_cancel out = record {
+        numbers = invariant.numbers;
+        pieces = invariant.pieces;
         lent = lent_end;
-        once = rising_kept (λ o. not (is_number n o)) os good.once;
+        once = rising_filter (λ o. not (is_number n o)) os invariant.once;
         single = single_end;
-        laid = All-filter (λ s. not (stroke_of n s)) (Laid opening ls) ss good.laid;
-        sound = sound_fewer opening os _ _ (all_of _ (λ s. still_out s.painting.loan) (less_all (stroke_of n) ss)) (cancel_file os opening n out _ ss refl good.sound (all_sized opening ls ss good.laid)).1;
+        laid = All-filter (λ s. not (stroke_of n s)) (Laid opening ls) ss invariant.laid;
+        sound = sound_fewer opening os _ _ (all_of _ (λ s. still_out s.painting.loan) (less_all (stroke_of n) ss)) (cancel_file os opening n out _ ss refl invariant.sound (all_sized opening ls ss invariant.laid)).1;
         fits = subst (FitsShelves mm mb) (sym (undoable_cancelled os n ss)) fits_end;
       }

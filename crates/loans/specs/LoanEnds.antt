@@ -6,11 +6,11 @@ use Rattle.refusal.specs.declared.Refusal.TheVariants.{OtherLength, LoanNotOut, 
 use Rattle.loans.specs.declared.loan.Loan.{Loan}
 use Rattle.loans.specs.declared.mark.Mark.{Mark}
 use Rattle.loans.specs.Lists.{less_all}
-use Rattle.loans.specs.Jobs.{Book}
+use Rattle.loans.specs.Books.{Book}
 use Rattle.loans.specs.Shipping.{is_job_number}
-use Rattle.loans.specs.Stocks.{Stock, is_number, is_out, of_loan, are_ours}
+use Rattle.loans.specs.Stocks.{Stock, is_number, is_out, of_loan, are_own}
 use Rattle.loans.specs.Strokes.{State, is_other_length, recounted}
-use Rattle.loans.specs.Taking.{no_mark}
+use Rattle.loans.specs.steps.Taking.{no_mark}
 
 -- the kept bytes of the marks that pass a test, in their order
 abbrev pub bytes_of : (Mark → Bool) → List Mark → List ℕ → List ℕ
@@ -32,7 +32,7 @@ book_without b n kept' cancelled' =
 abbrev pub keep_refusal : Book → Stock → ℕ → Option Refusal
 keep_refusal b k n =
     cond (not (is_out b.outs n)) (Some LoanNotOut)
-    (cond (not (are_ours b k)) (Some ForeignShelves) None)
+    (cond (not (are_own b k)) (Some ForeignShelves) None)
 
 -- the loan is out no more, one more was kept, and the job counts what stays on the shelves
 abbrev pub kept_book : Book → Stock → ℕ → Book
@@ -68,7 +68,7 @@ abbrev pub scrap_refusal : State → ℕ → Option Refusal
 scrap_refusal s n =
     cond (not (is_job_number s.book.number n)) (Some OtherDocket)
     (cond (is_other_length s) (Some OtherLength)
-    (cond (not (are_ours s.book s.stock)) (Some ForeignShelves) None))
+    (cond (not (are_own s.book s.stock)) (Some ForeignShelves) None))
 
 -- these loans are cancelled one after the other
 abbrev pub all_cancelled : List Loan → State → State

@@ -3,11 +3,11 @@ use Rattle.std.specs.Prelude.{ℕ, ◌+◌, ◌-◌, ◌++◌, length, take, dro
 use Rattle.dds.specs.declared.area.Area.{Area}
 use Rattle.dds.specs.declared.piece.Piece.{Piece}
 use Rattle.shelf.specs.Runs.{slid_down}
-use Rattle.loans.specs.declared.outcome.Ending.{Ending}
-use Rattle.loans.specs.declared.outcome.Ending.TheVariants.{Kept, Cancelled}
+use Rattle.loans.specs.declared.outcome.Outcome.{Outcome}
+use Rattle.loans.specs.declared.outcome.Outcome.TheVariants.{Kept, Cancelled}
 use Rattle.loans.specs.declared.ledger.Ledger.{Ledger}
-use Rattle.loans.specs.Books.{no_loan, loan_with}
-use Rattle.loans.specs.Jobs.{Book}
+use Rattle.loans.specs.Ledgers.{no_loan, loan_with}
+use Rattle.loans.specs.Books.{Book}
 use Rattle.loans.specs.Stocks.{Stock}
 use Rattle.loans.specs.Lending.{granting}
 
@@ -22,12 +22,12 @@ ledger_counted l k n marks' bytes' =
     record l { loans = slice_set l.loans k (loan_with (slice_index_or l.loans k no_loan) n); marks = marks'; bytes = bytes' }
 
 -- how many loans more were kept, where one ends so
-abbrev pub kept_by : Ending → ℕ
+abbrev pub kept_by : Outcome → ℕ
 kept_by Kept = 1
 kept_by Cancelled = 0
 
 -- how many more were cancelled
-abbrev pub cancelled_by : Ending → ℕ
+abbrev pub cancelled_by : Outcome → ℕ
 cancelled_by Kept = 0
 cancelled_by Cancelled = 1
 
@@ -53,12 +53,12 @@ book_counted b k n stock =
     }
 
 -- the loan at a position is out no more, and the job counts what stays on the shelves
-abbrev pub book_ended : Book → ℕ → Ending → Stock → Book
-book_ended b k ending stock =
+abbrev pub book_ended : Book → ℕ → Outcome → Stock → Book
+book_ended b k outcome stock =
     record b {
       outs = take k b.outs ++ drop (k + 1) b.outs;
-      kept = b.kept + kept_by ending;
-      cancelled = b.cancelled + cancelled_by ending;
+      kept = b.kept + kept_by outcome;
+      cancelled = b.cancelled + cancelled_by outcome;
       marks = length stock.marks;
       bytes = length stock.bytes;
     }

@@ -9,30 +9,30 @@ use Rattle.dds.specs.Places.{area_in}
 use Rattle.loans.specs.declared.loan.Loan.{Loan}
 use Rattle.loans.specs.declared.mark.Mark.{Mark}
 use Rattle.loans.specs.Lists.{less_first, less_all}
-use Rattle.loans.specs.Jobs.{Book, fresh_book}
+use Rattle.loans.specs.Books.{Book, fresh_book}
 use Rattle.loans.specs.Lending.{granting}
 use Rattle.loans.specs.Stocks.{Stock, is_number, is_out, the_loan}
 use Rattle.loans.specs.Strokes.{State, Painting, stroke_place, recounted}
-use Rattle.loans.specs.Rules.{Deed}
-use Rattle.loans.specs.Rules.Deed.{lend, paint, undo, keep, cancel}
+use Rattle.loans.specs.Rules.{Request}
+use Rattle.loans.specs.Rules.Request.{lend, paint, undo, keep, cancel}
 
 -- a call and what it answered
 pub record Event : Type 0 where
-  pub call : Deed
+  pub call : Request
   pub answer : Result ℕ Refusal
 
 -- the calls in order, each with its answer, written down behind a history
-abbrev pub written_down : List Event → List Deed → List (Result ℕ Refusal) → List Event
+abbrev pub written_down : List Event → List Request → List (Result ℕ Refusal) → List Event
 written_down h [] rs = h
 written_down h (d ∷ ds) [] = h
 written_down h (d ∷ ds) (r ∷ rs) = written_down (record { call = d; answer = r } ∷ h) ds rs
 
 -- the history of a list of calls and their answers
-abbrev pub history_of : List Deed → List (Result ℕ Refusal) → List Event
-history_of ds rs = written_down [] ds rs
+abbrev pub journal_of : List Request → List (Result ℕ Refusal) → List Event
+journal_of ds rs = written_down [] ds rs
 
 -- a loan that is granted comes first, and none ever leaves
-abbrev pub lent_after : Table → List Loan → Deed → Result ℕ Refusal → List Loan
+abbrev pub lent_after : Table → List Loan → Request → Result ℕ Refusal → List Loan
 lent_after t ls d (Err e) = ls
 lent_after t ls (lend p who) (Ok n) = granting n p who (area_in t p) ∷ ls
 lent_after t ls d (Ok n) = ls
@@ -43,7 +43,7 @@ lent t [] = []
 lent t (e ∷ h) = lent_after t (lent t h) e.call e.answer
 
 -- a loan is out from the call that answered its number until a keep or a cancel of it is carried out
-abbrev pub out_after : Table → List Loan → Deed → Result ℕ Refusal → List Loan
+abbrev pub out_after : Table → List Loan → Request → Result ℕ Refusal → List Loan
 out_after t ls d (Err e) = ls
 out_after t ls (lend p who) (Ok n) = ls ++ granting n p who (area_in t p) ∷ []
 out_after t ls (keep n) (Ok k) = less_all (is_number n) ls
@@ -56,7 +56,7 @@ out_in t [] = []
 out_in t (e ∷ h) = out_after t (out_in t h) e.call e.answer
 
 -- a keep that is carried out is one more
-abbrev pub keeps_after : ℕ → Deed → Result ℕ Refusal → ℕ
+abbrev pub keeps_after : ℕ → Request → Result ℕ Refusal → ℕ
 keeps_after k d (Err e) = k
 keeps_after k (keep m) (Ok n) = k + 1
 keeps_after k d (Ok n) = k
@@ -67,7 +67,7 @@ keeps_in [] = 0
 keeps_in (e ∷ h) = keeps_after (keeps_in h) e.call e.answer
 
 -- a cancel that is carried out is one more
-abbrev pub cancels_after : ℕ → Deed → Result ℕ Refusal → ℕ
+abbrev pub cancels_after : ℕ → Request → Result ℕ Refusal → ℕ
 cancels_after k d (Err e) = k
 cancels_after k (cancel m) (Ok n) = k + 1
 cancels_after k d (Ok n) = k
@@ -116,7 +116,7 @@ laying opening ls ss p =
     record { painting = p; piece = (the_loan ls p.loan).piece; place = at; below = bytes_under opening ss at (length p.laid) }
 
 -- a paint lays a stroke, an undo takes back the newest of its loan, a cancel all of them; those of a kept loan stand for good
-abbrev pub standing_after : List ℕ → List Loan → List Stroke → Deed → Result ℕ Refusal → List Stroke
+abbrev pub standing_after : List ℕ → List Loan → List Stroke → Request → Result ℕ Refusal → List Stroke
 standing_after opening ls ss d (Err e) = ss
 standing_after opening ls ss (paint p) (Ok k) = laying opening ls ss p ∷ ss
 standing_after opening ls ss (undo n who) (Ok k) = less_first (stroke_of n) ss
@@ -129,7 +129,7 @@ standing t opening [] = []
 standing t opening (e ∷ h) = standing_after opening (out_in t h) (standing t opening h) e.call e.answer
 
 -- a stroke that is laid comes first, and none ever leaves
-abbrev pub laid_after : List ℕ → List Loan → List Stroke → List Stroke → Deed → Result ℕ Refusal → List Stroke
+abbrev pub laid_after : List ℕ → List Loan → List Stroke → List Stroke → Request → Result ℕ Refusal → List Stroke
 laid_after opening ls ss old d (Err e) = old
 laid_after opening ls ss old (paint p) (Ok k) = laying opening ls ss p ∷ old
 laid_after opening ls ss old d (Ok k) = old
@@ -154,8 +154,8 @@ shelved most_marks' most_bytes' ss =
     record { marks = map mark_of ss; bytes = flat_map (λ (s : Stroke). s.below) ss; most_marks = most_marks'; most_bytes = most_bytes' }
 
 -- the job that a history tells: the loans out, how many were granted, kept and cancelled, and the counts of these shelves
-abbrev pub told_book : Layout → ℕ → List Event → Stock → Book
-told_book y number' h k =
+abbrev pub replayed_book : Layout → ℕ → List Event → Stock → Book
+replayed_book y number' h k =
     recounted (record (fresh_book y (Some number')) {
       outs = out_in y.table h;
       granted = length (lent y.table h);
@@ -164,15 +164,15 @@ told_book y number' h k =
     }) k
 
 -- the shelves that it tells: they hold the strokes that stand and whose loan is out
-abbrev pub told_stock : Table → ℕ → ℕ → List ℕ → List Event → Stock
-told_stock t most_marks' most_bytes' opening h = shelved most_marks' most_bytes' (undoable (out_in t h) (standing t opening h))
+abbrev pub replayed_stock : Table → ℕ → ℕ → List ℕ → List Event → Stock
+replayed_stock t most_marks' most_bytes' opening h = shelved most_marks' most_bytes' (undoable (out_in t h) (standing t opening h))
 
 -- the job, file and shelves that a history tells of a job opened with a layout, a number and a file, on shelves of these capacities;
 -- each byte of the file is that of the newest stroke standing over it, else the opening's
-abbrev pub told : Layout → ℕ → ℕ → ℕ → List ℕ → List Event → State
-told y number' most_marks' most_bytes' opening h =
+abbrev pub replayed : Layout → ℕ → ℕ → ℕ → List ℕ → List Event → State
+replayed y number' most_marks' most_bytes' opening h =
     record {
-      book = told_book y number' h (told_stock y.table most_marks' most_bytes' opening h);
+      book = replayed_book y number' h (replayed_stock y.table most_marks' most_bytes' opening h);
       file = bytes_under opening (standing y.table opening h) 0 (length opening);
-      stock = told_stock y.table most_marks' most_bytes' opening h;
+      stock = replayed_stock y.table most_marks' most_bytes' opening h;
     }

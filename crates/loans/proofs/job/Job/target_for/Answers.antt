@@ -4,7 +4,7 @@ use Rattle.loans.specs.declared.loan.Loan.{Loan}
 use Rattle.loans.specs.Stocks.{the_loan}
 use Rattle.loans.specs.Strokes.{painting_of, is_outside_row, stroke_place}
 use Rattle.loans.proofs.Painted.{paint_at}
-use Rattle.loans.proofs.job.Job.spot_for.Goals as goal
+use Rattle.loans.proofs.job.Job.target_for.Goals as goal
 
 pub returns : goal.returns
 returns c =

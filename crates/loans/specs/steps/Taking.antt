@@ -7,9 +7,9 @@ use Rattle.shelf.specs.Runs.{without_run}
 use Rattle.loans.specs.declared.mark.Mark.{Mark}
 use Rattle.loans.specs.declared.newest.Newest.{Newest}
 use Rattle.loans.specs.declared.last.Last.{Last}
-use Rattle.loans.specs.Books.{no_loan}
+use Rattle.loans.specs.Ledgers.{no_loan}
 use Rattle.loans.specs.Stocks.{Stock, of_loan, marks_of, lengths}
-use Rattle.loans.specs.Finding.{StandsAt}
+use Rattle.loans.specs.steps.Finding.{IsAt}
 use Rattle.loans.specs.Strokes.{State, undo_refusal}
 
 -- what is read where no mark stands
@@ -48,7 +48,7 @@ pub record Whole (file : List ℕ) (k : Stock) (position begin : ℕ) : Type 0 w
 -- where none of an undo's refusals applies: the position of the loan, and the loan's newest stroke
 pub record UndoAt (s : State) (n who k position begin : ℕ) : Type 0 where
   pub none : undo_refusal s n who ≡ None
-  pub loan : StandsAt s.book.outs n k
+  pub loan : IsAt s.book.outs n k
   pub newest : NewestAt s.stock.marks n position begin
   pub whole : Whole s.file s.stock position begin
   pub some : 0 < (slice_index_or s.book.outs k no_loan).strokes

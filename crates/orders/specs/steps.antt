@@ -1,0 +1,3 @@
+-- What private functions do, step by step. No public promise rests on it.
+pub mod Reading
+pub mod Answering
