@@ -39,4 +39,4 @@ lawful y =
 -- the area of a piece by the table's numbers is that of the piece in the list
 pub listed_area : (y : Layout) (p : Piece) → exists_in y.table p ≡ true → AreaOf y p (area_in y.table p)
 listed_area y p e =
-    record { is_at = entry_stands y.table y.sound p (exists_parts y.table p e); row_bytes = refl; rows = refl; length = refl }
+    record { stands = entry_stands y.table y.sound p (exists_parts y.table p e); row_bytes = refl; rows = refl; length = refl }

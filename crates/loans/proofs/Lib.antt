@@ -20,7 +20,7 @@ mod TakenAsOwn
 mod Steps
 pub mod Runs
 mod Painted
-mod Newest
+mod NewestMark
 mod Undone
 mod Leading
 mod Sifted

@@ -9,7 +9,7 @@ use Rattle.loans.specs.Stocks.{of_loan, lengths}
 use Rattle.loans.specs.steps.Taking.{no_mark}
 use Rattle.loans.specs.LoanEnds.{restored, InFile}
 use Rattle.loans.proofs.Marks.{lengths_append}
-use Rattle.loans.proofs.Newest.{Stepped}
+use Rattle.loans.proofs.NewestMark.{Stepped}
 
 -- from a position on all is put back
 pub record Back (ms : List Mark) (ks f₀ f : List ℕ) (n k end' : ℕ) : Type 0 where

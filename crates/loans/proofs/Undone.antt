@@ -20,7 +20,7 @@ use Rattle.loans.proofs.Recounting.{counted_at}
 use Rattle.loans.proofs.Allowed.{own_shelves, may_undo}
 use Rattle.loans.proofs.Painted.{recounts}
 use Rattle.loans.proofs.Marks.{marks_cons, marks_append, lengths_cons, lengths_append}
-use Rattle.loans.proofs.Newest.{parts, undone_stock_lem, undone_file}
+use Rattle.loans.proofs.NewestMark.{parts, undone_stock_lem, undone_file}
 
 pub sound_at : (ls : List Loan) (ms : List Mark) → all_sound ls ms ≡ true → (k : ℕ) → k < length ms → is_sound ls (get_or ms k no_mark) ≡ true
 sound_at ls [] h k f = absurd (omega arith)

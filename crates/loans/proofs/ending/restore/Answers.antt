@@ -1,6 +1,6 @@
 use Rattle.std.proofs.Common.{ap, refl, arith, rules}
 use Rattle.loans.specs.declared.mark.Mark.{Mark}
-use Rattle.loans.proofs.Newest.{stepped}
+use Rattle.loans.proofs.NewestMark.{stepped}
 use Rattle.loans.proofs.Restored.{back_long, back_fits, past_other, past_one}
 use Rattle.loans.proofs.ending.restore.Goals as goal
 

@@ -1,7 +1,7 @@
 use Rattle.std.proofs.Common.{ℕ, ◌-◌, ◌≡◌, ◌≢◌, subst₂, ap, arith}
 use Rattle.loans.specs.declared.mark.Mark.{Mark}
 use Rattle.loans.specs.steps.Taking.{NewestAt}
-use Rattle.loans.proofs.Newest.{Unfound, stepped, last_apart, long_enough, newest_here, unfound_before, unfound_none}
+use Rattle.loans.proofs.NewestMark.{Unfound, stepped, last_apart, long_enough, newest_here, unfound_before, unfound_none}
 use Rattle.loans.proofs.undoing.newest_of.Goals as goal
 
 pub offset_bounds-left-left : goal.offset_bounds-left-left

@@ -1,5 +1,5 @@
 use Rattle.std.proofs.Common.{◌≡◌, length, take}
-use Rattle.loans.proofs.Newest.{Unfound}
+use Rattle.loans.proofs.NewestMark.{Unfound}
 use Rattle.loans.proofs.undoing.newest_of.Given as goal
 
 -- the marks that are left stand first, and none of those passed is the loan's
