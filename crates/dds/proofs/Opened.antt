@@ -1,5 +1,5 @@
 -- What the steps of laying out a file come to.
-use Rattle.std.proofs.Common.{◌≡◌, ℕ, suc, ◌+◌, ◌*◌, ◌^◌, ◌<◌, ◌≤◌, cond, ltb, List, [], ◌∷◌, ◌++◌, length, get_or, take, drop, replicate, refl, sym, ap, ◌∙◌, subst, arith}
+use Rattle.std.proofs.Common.{◌≡◌, ℕ, suc, ◌+◌, ◌*◌, ◌^◌, ◌<◌, ◌≤◌, cond, ltb, List, [], ◌∷◌, ◌++◌, length, get_or, take, drop, replicate, Ok, refl, sym, ap, ◌∙◌, subst, arith}
 use Rattle.std.proofs.lemmas.List.{length-take-le}
 use Rattle.std.proofs.lemmas.Nat.{mul-le}
 use Rattle.std.proofs.lemmas.Bool.Decides.{nat_tests}
@@ -8,13 +8,13 @@ use Rattle.dds.specs.declared.level.Level.{Level}
 use Rattle.dds.specs.declared.shape.Shape.{Shape}
 use Rattle.dds.specs.LevelEnds.{Sliced, total_of}
 use Rattle.dds.specs.Levels.{levels_of, side_at}
-use Rattle.dds.specs.Shapes.{elements_of, depth_of}
+use Rattle.dds.specs.Shapes.{elements_of, depth_of, shape_read}
 use Rattle.dds.specs.Plans.{plan_of, pixel_begin, stride_of, size_at, begin_at}
 use Rattle.dds.specs.Tables.{IsChain, level_at, blank}
 use Rattle.dds.specs.Layouts.{sides_of, TableOf}
 use Rattle.dds.proofs.Begins.{Lawful, begin_few}
 use Rattle.dds.proofs.Halving.{side_some}
-use Rattle.dds.proofs.Shaped.{Shaped}
+use Rattle.dds.proofs.Shaped.{Shaped, shaped}
 use Rattle.dds.proofs.Tabled.{chain_total}
 use Rattle.dds.proofs.Written.{written}
 
@@ -23,10 +23,10 @@ sliced : (xs : List Level) → ((k : ℕ) → k < length xs → 1 ≤ (get_or xs
 sliced [] f = tt
 sliced (x ∷ xs) f = (f 0 (omega arith), sliced xs (λ k h. f (suc k) (omega arith)))
 
-pub blank_is : (d : Level) → (d.width ≡ 0) × ((d.height ≡ 0) × ((d.slices ≡ 0) × ((d.row_bytes ≡ 0) × ((d.rows ≡ 0) × (d.begin ≡ 0))))) → d ≡ blank
+blank_is : (d : Level) → (d.width ≡ 0) × ((d.height ≡ 0) × ((d.slices ≡ 0) × ((d.row_bytes ≡ 0) × ((d.rows ≡ 0) × (d.begin ≡ 0))))) → d ≡ blank
 blank_is d e = λ i. record { width = e.0 i; height = e.1.0 i; slices = e.1.1.0 i; row_bytes = e.1.1.1.0 i; rows = e.1.1.1.1.0 i; begin = e.1.1.1.1.1 i }
 
-pub filled_long : {h : Header} {shape : Shape} {count : ℕ} (d : Level) (filled : List Level) → Shaped h shape → count ≡ levels_of h
+filled_long : {h : Header} {shape : Shape} {count : ℕ} (d : Level) (filled : List Level) → Shaped h shape → count ≡ levels_of h
     → length filled ≡ length (take count (replicate 15 d)) → length filled ≡ count
 filled_long {count = count} d filled ok is e = e ∙ length-take-le count (replicate 15 d) (omega (arith, ok.few_levels))
 
@@ -40,6 +40,25 @@ pub record Steps (h : Header) (shape : Shape) (row_bytes rows : ℕ → ℕ → 
   pub blank_is : d ≡ blank
   pub long : length filled ≡ count
   pub chain_is : IsChain row_bytes rows (record { width = h.width; height = h.height; depth = depth }) filled stride
+
+pub steps_of : (h : Header) (shape : Shape) (row_bytes rows : ℕ → ℕ → ℕ) {depth count begin elements stride : ℕ} (filled : List Level) (d : Level)
+    → shape_read h ≡ Ok shape → depth ≡ depth_of shape → count ≡ levels_of h → begin ≡ pixel_begin h → elements ≡ elements_of shape
+    → (d.width ≡ 0) × ((d.height ≡ 0) × ((d.slices ≡ 0) × ((d.row_bytes ≡ 0) × ((d.rows ≡ 0) × (d.begin ≡ 0)))))
+    → length filled ≡ length (take count (replicate 15 d))
+    → IsChain row_bytes rows (record { width = h.width; height = h.height; depth = depth }) filled stride
+    → Steps h shape row_bytes rows depth count begin elements stride filled d
+steps_of h shape row_bytes rows filled d read depth_is count_is begin_is elements_is zeros long chain_is =
+    let ok = shaped h shape read in
+    record {
+      ok = ok;
+      depth_is = depth_is;
+      count_is = count_is;
+      begin_is = begin_is;
+      elements_is = elements_is;
+      blank_is = blank_is d zeros;
+      long = filled_long d filled ok count_is long;
+      chain_is = chain_is;
+    }
 
 module _ {h : Header} {shape : Shape} {row_bytes rows : ℕ → ℕ → ℕ} {depth count begin elements stride : ℕ} {filled : List Level} {d : Level}
     (s : Steps h shape row_bytes rows depth count begin elements stride filled d) where

@@ -37,7 +37,7 @@ pub record TableOf (h : Header) (shape : Shape) (row_bytes rows : ℕ → ℕ �
 
 -- what a layout was made from
 abbrev pub origin_of : Header → Shape → FormatSource → Origin
-origin_of h shape' source' = record { header = h; shape = shape'; source = source' }
+origin_of h shape source = record { header = h; shape = shape; source = source }
 
 -- the pieces of a layout, in the order of the file
 abbrev pub pieces_in : Layout → List Placed

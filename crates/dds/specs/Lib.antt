@@ -1,4 +1,3 @@
-pub use Rattle.formats.specs.Names
 pub mod Readings
 pub mod Headers
 pub mod Levels
@@ -15,3 +14,9 @@ pub mod Counts
 pub mod Figures
 pub mod Texts
 pub mod steps
+-- what the promises here cite of the crates below
+pub use Rattle.formats.specs.BitCounts
+pub use Rattle.formats.specs.Codes
+pub use Rattle.formats.specs.DxgiNames
+pub use Rattle.formats.specs.Extents
+pub use Rattle.formats.specs.Names

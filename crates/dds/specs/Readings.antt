@@ -9,7 +9,7 @@ pub record Reading : Type 0 where
 
 -- that head and that length
 abbrev pub reading : List ℕ → ℕ → Reading
-reading head' n = record { head = head'; length = n }
+reading head n = record { head = head; length = n }
 
 -- what is read of a file: its first 148 bytes, or the whole of a shorter one, and its length
 abbrev pub reading_of : List ℕ → Reading

@@ -8,7 +8,8 @@ use Rattle.loans.specs.Ledgers.{no_loan, NumbersRise}
 use Rattle.loans.specs.Books.{Book, Orderly}
 use Rattle.loans.specs.Stocks.{Stock, Fits, the_loan, of_loan, marks_of, are_own}
 use Rattle.loans.specs.steps.Finding.{IsAt}
-use Rattle.loans.specs.Strokes.{State, Painting, state_of, recounted, paint_refusal, stroke_place, PaintAt, stock_with, painted_stock}
+use Rattle.loans.specs.Strokes.{State, Painting, state_of, recounted, paint_refusal, stroke_place, stock_with, painted_stock}
+use Rattle.loans.specs.steps.Holding.{PaintAt}
 use Rattle.loans.specs.Rules.Request.{paint}
 use Rattle.loans.specs.Calls.{Carried}
 use Rattle.loans.specs.steps.Writing.{book_counted}

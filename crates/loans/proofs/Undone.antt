@@ -9,7 +9,8 @@ use Rattle.loans.specs.declared.mark.Mark.{Mark}
 use Rattle.loans.specs.Ledgers.{no_loan, NumbersRise}
 use Rattle.loans.specs.Books.{Book, Orderly}
 use Rattle.loans.specs.Stocks.{Stock, is_number, is_out, the_loan, of_loan, marks_of, lengths, are_own, is_sound, all_sound, lies_in}
-use Rattle.loans.specs.Strokes.{State, state_of, HeldAt, undone_stock, recounted}
+use Rattle.loans.specs.Strokes.{State, state_of, undone_stock, recounted}
+use Rattle.loans.specs.steps.Holding.{HeldAt}
 use Rattle.loans.specs.steps.Taking.{no_mark, NewestAt, file_less, stock_less, UndoAt}
 use Rattle.loans.specs.LoanEnds.{InFile}
 use Rattle.loans.specs.Rules.Request.{undo}

@@ -15,3 +15,10 @@ pub mod Law
 pub mod Runs
 pub mod Handed
 pub mod steps
+-- what the promises here cite of the crates below
+pub use Rattle.refusal.specs.Meanings
+pub use Rattle.dds.specs.Readings
+pub use Rattle.dds.specs.Layouts
+pub use Rattle.dds.specs.Places
+pub use Rattle.dds.specs.Sound
+pub use Rattle.shelf.specs.Held

@@ -8,10 +8,8 @@ use Rattle.dds.specs.declared.area.Area.{Area}
 use Rattle.loans.specs.declared.painting.Painting as Call
 use Rattle.loans.specs.declared.loan.Loan.{Loan}
 use Rattle.loans.specs.declared.mark.Mark.{Mark}
-use Rattle.loans.specs.Ledgers.{no_loan, loan_with}
-use Rattle.loans.specs.Books.{Book, Orderly}
-use Rattle.loans.specs.declared.target.Target.{Target}
-use Rattle.loans.specs.steps.Finding.{IsAt}
+use Rattle.loans.specs.Ledgers.{loan_with}
+use Rattle.loans.specs.Books.{Book}
 use Rattle.loans.specs.Stocks.{Stock, is_out, the_loan, of_loan, marks_of, are_own}
 
 -- a job, its file and its shelves
@@ -36,19 +34,6 @@ held_else s n who rest =
     (cond (not (is_out s.book.outs n)) (Some LoanNotOut)
     (cond (not ((the_loan s.book.outs n).borrower == who)) (Some OtherBorrower)
     (cond (not (are_own s.book s.stock)) (Some ForeignShelves) rest)))
-
--- the position of a loan that the borrower holds, of a job's book
-pub record HeldAt (s : State) (n who k : ℕ) : Type 0 where
-  pub next : (rest : Option Refusal) → held_else s n who rest ≡ rest
-  pub loan : IsAt s.book.outs n k
-  pub sized : length s.file ≡ s.book.layout.table.length
-  pub own_shelves : are_own s.book s.stock ≡ true
-  pub orderly : Orderly s.book
-
--- the position of the loan, or the first of the four refusals that applies, whatever comes after them
-abbrev pub Held : State → ℕ → ℕ → Result ℕ Refusal → Type 0
-Held s n who (Ok k) = HeldAt s n who k
-Held s n who (Err e) = (rest : Option Refusal) → held_else s n who rest ≡ Some e
 
 -- a loan as the shelves count it
 abbrev pub counted_loan : List Mark → Loan → Loan
@@ -94,19 +79,6 @@ paint_refusal s p =
 -- where a stroke lies: behind the piece's rows before its own, and the row's bytes before it
 abbrev pub stroke_place : Area → Painting → ℕ
 stroke_place a p = a.place + (p.row * a.row_bytes + p.first)
-
--- where none of a paint's refusals applies: the position of its loan, and its place
-pub record PaintAt (s : State) (p : Painting) (k at : ℕ) : Type 0 where
-  pub none : paint_refusal s p ≡ None
-  pub loan : IsAt s.book.outs p.loan k
-  pub place : at ≡ stroke_place (the_loan s.book.outs p.loan).area p
-  pub inside : at + length p.laid ≤ length s.file
-  pub few : (slice_index_or s.book.outs k no_loan).strokes ≤ 1073741824
-
--- where the stroke is to lie, or the first refusal that applies
-abbrev pub PaintTested : State → Painting → Result Target Refusal → Type 0
-PaintTested s p (Ok target) = PaintAt s p target.position target.place
-PaintTested s p (Err e) = paint_refusal s p ≡ Some e
 
 -- one mark more, and what the file held under it
 abbrev pub stock_with : Stock → Mark → List ℕ → Stock

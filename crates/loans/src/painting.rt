@@ -8,7 +8,8 @@ ghost use Rattle.loans.specs.steps.Writing.{book_counted};
 ghost use Rattle.loans.specs.Books.{Orderly};
 ghost use Rattle.loans.specs.Stocks.{Fits, OwnWhere};
 ghost use Rattle.loans.specs.steps.Finding.{Found};
-ghost use Rattle.loans.specs.Strokes.{state_of, Held, stock_with, painting_of, is_outside_row, lacks_space, PaintTested};
+ghost use Rattle.loans.specs.Strokes.{state_of, stock_with, painting_of, is_outside_row, lacks_space};
+ghost use Rattle.loans.specs.steps.Holding.{Held, PaintTested};
 
 use crate::job::Job;
 use crate::loan::Loan;

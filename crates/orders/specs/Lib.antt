@@ -8,12 +8,15 @@ pub mod steps
 -- what the promises here cite of the crates below
 pub use Rattle.refusal.specs.Numbers
 pub use Rattle.formats.specs.Codes
+pub use Rattle.dds.specs.Readings
 pub use Rattle.dds.specs.Pieces
 pub use Rattle.dds.specs.Layouts
 pub use Rattle.loans.specs.Stocks
 pub use Rattle.loans.specs.Strokes
 pub use Rattle.loans.specs.Rules
+pub use Rattle.loans.specs.Calls
 pub use Rattle.loans.specs.Journals
 pub use Rattle.loans.specs.Law
 pub use Rattle.loans.specs.Runs
 pub use Rattle.loans.specs.LoanEnds
+pub use Rattle.loans.specs.Scrapping

@@ -2,7 +2,7 @@ use Rattle.std.proofs.Common.{sym, subst, arith, rules, replicate}
 use Rattle.std.proofs.lemmas.List.{length-take-le}
 use Rattle.dds.specs.Tables.{InRange}
 use Rattle.dds.proofs.Shaped.{shaped}
-use Rattle.dds.proofs.Opened.{Steps, blank_is, filled_long, walk_sliced, walk_fits, made}
+use Rattle.dds.proofs.Opened.{steps_of, walk_sliced, walk_fits, made}
 use Rattle.dds.proofs.opening.table_of.Goals as goal
 
 pub slice_bounds-levels-end : goal.slice_bounds-levels-end
@@ -24,32 +24,16 @@ fill_levels-stride-requires-clause-sides g c =
 
 pub element_step-pixel_end-requires-clause-sliced : goal.element_step-pixel_end-requires-clause-sliced
 element_step-pixel_end-requires-clause-sliced g c =
-    let steps : Steps c.args.header.now c.args.shape (g.F.Family.row_bytes c.args.family.now) (g.F.Family.rows c.args.family.now) _ _ _ _ _ _ _
-    = record {
-      ok = shaped c.args.header.now c.args.shape c.requires;
-      depth_is = c.depth.ensures;
-      count_is = c.levels-level_count.ensures;
-      begin_is = c.pixel_begin-pixel_begin.ensures;
-      elements_is = c.elements-elements.ensures;
-      blank_is = blank_is _ c.default-levels.ensures;
-      long = filled_long c.default-levels.result _ (shaped c.args.header.now c.args.shape c.requires) c.levels-level_count.ensures c.fill_levels-stride.ensures.count;
-      chain_is = c.fill_levels-stride.ensures.chain;
-    } in
+    let steps = steps_of c.args.header.now c.args.shape (g.F.Family.row_bytes c.args.family.now) (g.F.Family.rows c.args.family.now) _
+    c.default-levels.result c.requires c.depth.ensures c.levels-level_count.ensures c.pixel_begin-pixel_begin.ensures
+    c.elements-elements.ensures c.default-levels.ensures c.fill_levels-stride.ensures.count c.fill_levels-stride.ensures.chain in
     walk_sliced steps
 
 pub element_step-pixel_end-requires-clause-fits : goal.element_step-pixel_end-requires-clause-fits
 element_step-pixel_end-requires-clause-fits g c =
-    let steps : Steps c.args.header.now c.args.shape (g.F.Family.row_bytes c.args.family.now) (g.F.Family.rows c.args.family.now) _ _ _ _ _ _ _
-    = record {
-      ok = shaped c.args.header.now c.args.shape c.requires;
-      depth_is = c.depth.ensures;
-      count_is = c.levels-level_count.ensures;
-      begin_is = c.pixel_begin-pixel_begin.ensures;
-      elements_is = c.elements-elements.ensures;
-      blank_is = blank_is _ c.default-levels.ensures;
-      long = filled_long c.default-levels.result _ (shaped c.args.header.now c.args.shape c.requires) c.levels-level_count.ensures c.fill_levels-stride.ensures.count;
-      chain_is = c.fill_levels-stride.ensures.chain;
-    } in
+    let steps = steps_of c.args.header.now c.args.shape (g.F.Family.row_bytes c.args.family.now) (g.F.Family.rows c.args.family.now) _
+    c.default-levels.result c.requires c.depth.ensures c.levels-level_count.ensures c.pixel_begin-pixel_begin.ensures
+    c.elements-elements.ensures c.default-levels.ensures c.fill_levels-stride.ensures.count c.fill_levels-stride.ensures.chain in
     walk_fits steps (g.met.F.Family.bounded c.args.family.now)
 
 pub overflow_cast-result : goal.overflow_cast-result
@@ -60,15 +44,7 @@ overflow_cast-result g c =
 
 pub returns : goal.returns
 returns g c =
-    let steps : Steps c.args.header.now c.args.shape (g.F.Family.row_bytes c.args.family.now) (g.F.Family.rows c.args.family.now) _ _ _ _ _ _ _
-    = record {
-      ok = shaped c.args.header.now c.args.shape c.requires;
-      depth_is = c.depth.ensures;
-      count_is = c.levels-level_count.ensures;
-      begin_is = c.pixel_begin-pixel_begin.ensures;
-      elements_is = c.elements-elements.ensures;
-      blank_is = blank_is _ c.default-levels.ensures;
-      long = filled_long c.default-levels.result _ (shaped c.args.header.now c.args.shape c.requires) c.levels-level_count.ensures c.fill_levels-stride.ensures.count;
-      chain_is = c.fill_levels-stride.ensures.chain;
-    } in
+    let steps = steps_of c.args.header.now c.args.shape (g.F.Family.row_bytes c.args.family.now) (g.F.Family.rows c.args.family.now) _
+    c.default-levels.result c.requires c.depth.ensures c.levels-level_count.ensures c.pixel_begin-pixel_begin.ensures
+    c.elements-elements.ensures c.default-levels.ensures c.fill_levels-stride.ensures.count c.fill_levels-stride.ensures.chain in
     made steps c.args.length c.element_step-pixel_end.result c.element_step-pixel_end.ensures
