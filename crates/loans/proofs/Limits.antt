@@ -1,5 +1,5 @@
 -- What no call exceeds: the shelves can hold as much after it as before, and its number is at most the limit.
-use Rattle.std.proofs.Common.{ℕ, suc, ◌≤◌, Bool, true, false, cond, List, [], ◌∷◌, length, Some, None, Option, Ok, Err, Result, sym, refl, ap, ◌∙◌, subst, arith}
+use Rattle.std.proofs.Common.{ℕ, ◌≤◌, List, [], ◌∷◌, length, Some, None, Option, Ok, Err, Result, sym, refl, ap, ◌∙◌, subst, arith}
 use Rattle.std.specs.Prelude.{IfOk}
 use Rattle.refusal.specs.declared.Refusal.{Refusal}
 use Rattle.loans.specs.Books.{Book, Orderly}

@@ -4,7 +4,7 @@ use lib.Seq.{paste}
 use Rattle.std.proofs.lemmas.List.Edits.{length-paste}
 use Rattle.std.proofs.lemmas.List.{length-append, length-map, drop_more}
 use Rattle.refusal.specs.declared.Refusal.{Refusal}
-use Rattle.std.proofs.lemmas.Bool.{not_from_true, cond-false, and_parts, and_from, eqb-true, eqb-false, eq-eqb, ne_eqb}
+use Rattle.std.proofs.lemmas.Bool.{not_from_true, cond-false, and_parts, and_from, eqb-false, eq-eqb, ne_eqb}
 use Rattle.loans.specs.declared.loan.Loan.{Loan}
 use Rattle.loans.specs.declared.mark.Mark.{Mark}
 use Rattle.loans.specs.Lists.{less_all}

@@ -49,7 +49,8 @@ fresh_book y n = record { layout = y; number = n; outs = []; granted = 0; kept =
 
 -- no file, no number, no loans
 abbrev pub IsEmpty : Book → Type 0
-IsEmpty b = (b.layout.table ≡ empty_table) × (b ≡ fresh_book b.layout None)
+IsEmpty b =
+    (b.layout.table ≡ empty_table) × (b.layout.origin ≡ None) × (b ≡ fresh_book b.layout None)
 
 -- how many loans were granted, kept and cancelled, and how many are out
 abbrev pub report_of : Book → Report
