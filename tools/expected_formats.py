@@ -138,17 +138,22 @@ formats = [f'Linear({b})' for b in [1] + list(range(8, 129, 8))] + ['Paired', 'B
 inside = [1 <= s <= 16384 for s in SIDES]
 out = [
     '// Written by tools/expected_formats.py, which says how the values were computed.',
-    'use crate::kinds::FormatName;',
+    'use crate::format_name::FormatName;',
     '',
-    '// What images take in one format: the bytes of a row at each width of SIDES, and the rows at each height.',
+    '/// What images take in one format: the bytes of a row at each width of SIDES, and the rows at each height.',
     'pub struct Sizes {',
+    '    /// the format',
     '    pub name: FormatName,',
+    '    /// bytes of a row, by width',
     f'    pub row_bytes: [u32; {len(SIDES)}],',
+    '    /// rows, by height',
     f'    pub rows: [u32; {len(SIDES)}],',
     '}',
     '',
+    '/// Widths and heights, in pixels.',
     f'pub const SIDES: [u32; {len(SIDES)}] = {SIDES};',
     '',
+    '/// What images of these sides take, format by format.',
     f'pub const SIZES: [Sizes; {len(formats)}] = [',
 ]
 for name in formats:
@@ -156,14 +161,14 @@ for name in formats:
                f'rows: {[rows(name, s) if ok else 0 for s, ok in zip(SIDES, inside)]} }},')
 every = [format_of(n) for n in names()]
 every += [None] * (131 - len(every))
-out += ['];', '', '// The format of each DXGI code from 0 to 130.', 'pub const DXGI: [Option<FormatName>; 131] = [']
+out += ['];', '', '/// The format of each DXGI code from 0 to 130.', 'pub const DXGI: [Option<FormatName>; 131] = [']
 out += [f'    {option(f)},' for f in every]
-out += ['];', '', '// The name of each DXGI code from 0 to 130 that has a format.', 'pub const DXGI_NAMES: [Option<&str>; 131] = [']
+out += ['];', '', '/// The name of each DXGI code from 0 to 130 that has a format.', 'pub const DXGI_NAMES: [Option<&str>; 131] = [']
 named = [n if format_of(n) else None for n in names()]
 named += [None] * (131 - len(named))
 out += [f'    Some("{n}"),' if n else '    None,' for n in named]
 plain = [(number(c), format_of(n)) for c, n in PLAIN.items()] + [(number(c), None) for c in NEAR]
-out += ['];', '', '// Codes of a plain header with their formats, and near misses.', f'pub const PLAIN: [(u32, Option<FormatName>); {len(plain)}] = [']
+out += ['];', '', '/// Codes of a plain header with their formats, and near misses.', f'pub const PLAIN: [(u32, Option<FormatName>); {len(plain)}] = [']
 out += [f'    ({c}, {option(f)}),' for c, f in plain]
 out += ['];', '']
 path = pathlib.Path(__file__).resolve().parent.parent / 'crates/formats/src/expected.rt'

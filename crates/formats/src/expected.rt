@@ -1,15 +1,20 @@
 // Written by tools/expected_formats.py, which says how the values were computed.
 use crate::format_name::FormatName;
 
-// What images take in one format: the bytes of a row at each width of SIDES, and the rows at each height.
+/// What images take in one format: the bytes of a row at each width of SIDES, and the rows at each height.
 pub struct Sizes {
+    /// the format
     pub name: FormatName,
+    /// bytes of a row, by width
     pub row_bytes: [u32; 12],
+    /// rows, by height
     pub rows: [u32; 12],
 }
 
+/// Widths and heights, in pixels.
 pub const SIDES: [u32; 12] = [0, 1, 2, 3, 4, 5, 255, 256, 257, 16383, 16384, 16385];
 
+/// What images of these sides take, format by format.
 pub const SIZES: [Sizes; 20] = [
     Sizes {
         name: FormatName::Linear(1),
@@ -113,7 +118,7 @@ pub const SIZES: [Sizes; 20] = [
     },
 ];
 
-// The format of each DXGI code from 0 to 130.
+/// The format of each DXGI code from 0 to 130.
 pub const DXGI: [Option<FormatName>; 131] = [
     None,
     Some(FormatName::Linear(128)),
@@ -248,7 +253,7 @@ pub const DXGI: [Option<FormatName>; 131] = [
     None,
 ];
 
-// The name of each DXGI code from 0 to 130 that has a format.
+/// The name of each DXGI code from 0 to 130 that has a format.
 pub const DXGI_NAMES: [Option<&str>; 131] = [
     None,
     Some("R32G32B32A32_TYPELESS"),
@@ -383,7 +388,7 @@ pub const DXGI_NAMES: [Option<&str>; 131] = [
     None,
 ];
 
-// Codes of a plain header with their formats, and near misses.
+/// Codes of a plain header with their formats, and near misses.
 pub const PLAIN: [(u32, Option<FormatName>); 47] = [
     (827611204, Some(FormatName::Block(8))),
     (844388420, Some(FormatName::Block(16))),

@@ -1,6 +1,7 @@
 pub mod Lists
 pub mod Ledgers
 pub mod Books
+pub mod Dockets
 pub mod Opening
 pub mod Lending
 pub mod Stocks

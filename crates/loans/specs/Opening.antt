@@ -7,6 +7,7 @@ use Rattle.dds.specs.declared.source.FormatSource.TheVariants.{HandedIn}
 use Rattle.dds.specs.Readings.{reading_of}
 use Rattle.dds.specs.Layouts.{Opened, OpenedBy}
 use Rattle.loans.specs.declared.docket.Docket.{Docket}
+use Rattle.loans.specs.Dockets.{docket_number}
 use Rattle.loans.specs.declared.job.Job.{Job}
 use Rattle.loans.specs.Books.{fresh_book}
 
@@ -14,7 +15,7 @@ use Rattle.loans.specs.Books.{fresh_book}
 -- the number; a refused open leaves the place as it was
 abbrev pub JobOpened : (Result Layout Refusal → Type 0) → ℕ → Job → Result Docket Refusal → Job → Type 0
 JobOpened reads number s (Ok d) t =
-    (d.0 ≡ number) × reads (Ok t.layout) × (t ≡ fresh_book t.layout (Some number))
+    (docket_number d ≡ number) × reads (Ok t.layout) × (t ≡ fresh_book t.layout (Some number))
 JobOpened reads number s (Err e) t = reads (Err e) × (t ≡ s)
 
 -- with a family that is handed in

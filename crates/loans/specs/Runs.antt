@@ -7,6 +7,7 @@ use Rattle.dds.specs.declared.source.FormatSource.TheVariants.{HandedIn}
 use Rattle.dds.specs.Readings.{reading_of}
 use Rattle.dds.specs.Layouts.{Opened}
 use Rattle.loans.specs.declared.docket.Docket.{Docket}
+use Rattle.loans.specs.Dockets.{docket_number}
 use Rattle.loans.specs.declared.job.Job.{Job}
 use Rattle.loans.specs.declared.shelves.Shelves.{Shelves}
 use Rattle.loans.specs.declared.run_fault.RunFault.{RunFault}
@@ -57,7 +58,7 @@ FileOpened o r = Opened (reading_of o.file) HandedIn o.row_bytes o.rows r
 pub record RanSo (o : Ordered) (d : Docket) (t : State) (all : List (Result ℕ Refusal)) : Type 0 where
   pub layout : Layout
   pub opened : FileOpened o (Ok layout)
-  pub docket : d.0 ≡ o.number
+  pub docket : docket_number d ≡ o.number
   pub room : length o.old + length o.calls ≤ o.room
   pub given : List (Result ℕ Refusal)
   pub answers : all ≡ o.old ++ given

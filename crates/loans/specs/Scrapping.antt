@@ -2,6 +2,7 @@
 use Rattle.std.specs.Prelude.{◌≡◌, ℕ, true, List, length, Some, None, Ok, Err, Result}
 use Rattle.refusal.specs.declared.Refusal.{Refusal}
 use Rattle.loans.specs.declared.docket.Docket.{Docket}
+use Rattle.loans.specs.Dockets.{docket_number}
 use Rattle.loans.specs.declared.job.Job.{Job}
 use Rattle.loans.specs.declared.report.Report.{Report}
 use Rattle.loans.specs.declared.shelves.Shelves.{Shelves}
@@ -17,7 +18,7 @@ pub record WithOwn (s : State) : Type 0 where
 
 -- every loan out is cancelled: the report, file and shelves are those after the cancels, and the job is emptied
 pub record ScrappedSo (d : Docket) (s : State) (report : Report) (t : State) : Type 0 where
-  pub none : scrap_refusal s d.0 ≡ None
+  pub none : scrap_refusal s (docket_number d) ≡ None
   pub answer : report ≡ report_of (all_cancelled s.book.outs s).book
   pub job : IsEmpty t.book
   pub file : t.file ≡ (all_cancelled s.book.outs s).file
@@ -26,4 +27,4 @@ pub record ScrappedSo (d : Docket) (s : State) (report : Report) (t : State) : T
 -- a refusal takes only the docket
 abbrev pub Scrapped : Docket → Job → List ℕ → Shelves → Result Report Refusal → Job → List ℕ → Shelves → Type 0
 Scrapped d j f v (Ok report) j' f' v' = ScrappedSo d (state_of j f v) report (state_of j' f' v')
-Scrapped d j f v (Err e) j' f' v' = (scrap_refusal (state_of j f v) d.0 ≡ Some e) × (j' ≡ j) × (f' ≡ f) × (v' ≡ v)
+Scrapped d j f v (Err e) j' f' v' = (scrap_refusal (state_of j f v) (docket_number d) ≡ Some e) × (j' ≡ j) × (f' ≡ f) × (v' ≡ v)

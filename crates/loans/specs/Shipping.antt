@@ -3,6 +3,7 @@ use Rattle.std.specs.Prelude.{◌≡◌, ℕ, Bool, false, cond, not, length, So
 use Rattle.refusal.specs.declared.Refusal.{Refusal}
 use Rattle.refusal.specs.declared.Refusal.TheVariants.{OtherDocket, LoansOut}
 use Rattle.loans.specs.declared.docket.Docket.{Docket}
+use Rattle.loans.specs.Dockets.{docket_number}
 use Rattle.loans.specs.declared.job.Job.{Job}
 use Rattle.loans.specs.declared.report.Report.{Report}
 use Rattle.loans.specs.declared.unspent.Unspent.{Unspent}
@@ -22,6 +23,7 @@ ship_refusal b n =
 -- the job is emptied and its report answered; a refusal hands the docket back
 abbrev pub Shipped : Docket → Job → Result Report Unspent → Job → Type 0
 Shipped d s (Ok report) t =
-    (ship_refusal s d.0 ≡ None) × (report ≡ report_of s) × IsEmpty t
+    (ship_refusal s (docket_number d) ≡ None) × (report ≡ report_of s) × IsEmpty t
 Shipped d s (Err u) t =
-    (ship_refusal s d.0 ≡ Some u.refusal) × (u.docket.0 ≡ d.0) × (t ≡ s)
+    (ship_refusal s (docket_number d) ≡ Some u.refusal)
+    × (docket_number u.docket ≡ docket_number d) × (t ≡ s)

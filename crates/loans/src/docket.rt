@@ -1,5 +1,6 @@
 // The docket: what stands for an open job.
 ghost use Rattle.std.specs.Prelude.{◌≡◌, ◌^◌};
+ghost use Rattle.loans.specs.Dockets.{docket_number};
 
 use std::mem;
 
@@ -13,7 +14,7 @@ pub struct Docket(u64);
 impl Drop for Docket {
     // Only one with a number that no job has, which no caller ever gets.
     fn drop(self)
-        requires { self.0 ≡ 2 ^ 32 }
+        requires { docket_number self ≡ 2 ^ 32 }
     {
         let Docket(_) = self;
     }
@@ -22,22 +23,22 @@ impl Drop for Docket {
 impl Docket {
     // A docket of a job's number.
     pub(crate) fn of(number: u32) -> Docket
-        ensures { result.0 ≡ number }
+        ensures { docket_number result ≡ number }
     {
         Docket(u64::from(number))
     }
 
     /// The number of the job that it stands for, which is below 2^32.
     pub fn number(&self) -> u64
-        ensures { result ≡ self.now.0 }
+        ensures { result ≡ docket_number self.now }
     {
         self.0
     }
 
     // Takes the job's number out: the only way to let a docket go.
     pub(crate) fn spend(&mut self) -> u64
-        ensures number { result ≡ self.old.0 }
-        ensures spent { self.new.0 ≡ 2 ^ 32 }
+        ensures number { result ≡ docket_number self.old }
+        ensures spent { docket_number self.new ≡ 2 ^ 32 }
     {
         mem::replace(&mut self.0, SPENT)
     }

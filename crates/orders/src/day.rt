@@ -1,6 +1,7 @@
 // A day's orders, from the texture and their text to the answers and how the day ends.
 ghost use Rattle.std.specs.Prelude.{◌≡◌, ◌+◌, ◌*◌, ◌<◌, ◌≤◌, ◌++◌, ◌↔◌, Some, IsErr, OnErr, IfOk, length, vec_len, vec_capacity};
 ghost use Rattle.loans.specs.Stocks.{SameRoom, answer_limit};
+ghost use Rattle.loans.specs.Dockets.{docket_number};
 ghost use Rattle.loans.specs.Strokes.{state_of};
 ghost use Rattle.loans.specs.Scrapping.{WithOwn};
 ghost use Rattle.orders.specs.Lines.{lines_of};
@@ -96,7 +97,7 @@ fn answer_all(
 
 // Ships, or scraps where a loan is out.
 fn close(docket: Docket, job: &mut Job, file: &mut [u8], shelves: &mut Shelves<'_>) -> Ending
-    requires number { job.old.number ≡ Some docket.0 }
+    requires number { job.old.number ≡ Some (docket_number docket) }
     requires own { WithOwn (state_of job.old file.old shelves.old) }
     ensures { Closed (state_of job.old file.old shelves.old) result file.new }
 {
@@ -121,7 +122,7 @@ fn day_on(
     requires room { vec_len printed.old + 6 * length orders.now ≤ vec_capacity printed.old }
     requires begun { Begun
         (record { master = master.old; orders = orders.now; before = printed.old.items })
-        docket.0 (state_of job.old master.old shelves.old) }
+        (docket_number docket) (state_of job.old master.old shelves.old) }
     ensures ended { EndedAs
         (record { master = master.old; orders = orders.now; before = printed.old.items })
         result master.new printed.new.items }

@@ -176,8 +176,8 @@ impl<'a> Order<'a> {
         shelves: &mut Shelves<'_>,
     ) -> Answer
         requires { HasShortDigits self }
-        ensures rule { Called (request_for (instruction_of self.entry)) job.old file.old shelves.old result
-            job.new file.new shelves.new }
+        ensures rule { Called (request_for (instruction_of self.entry))
+            job.old file.old shelves.old result job.new file.new shelves.new }
         ensures room { SameRoom shelves.old shelves.new }
         ensures limit { IfOk result (λ number. number ≤ answer_limit shelves.old) }
     {

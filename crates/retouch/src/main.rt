@@ -48,14 +48,14 @@ enum Fault {
 }
 
 // A file's name and its length.
-fn tell_file(told: &mut String, request: &str, name: &str, length: usize) -> Result<(), AllocError> {
-    writeln!(told, "{request} {name}: {length} bytes")
+fn tell_file(text: &mut String, step: &str, name: &str, length: usize) -> Result<(), AllocError> {
+    writeln!(text, "{step} {name}: {length} bytes")
 }
 
 // Makes the calls, and tells each with its answer; the longest of them has 54 characters.
 fn work(
     rt: &HostRuntime,
-    told: &mut String,
+    text: &mut String,
     calls: &[Call<'_>],
     desk: &mut Desk<'_>,
 ) -> Result<Vec<Answer>, AllocError> {
@@ -65,14 +65,14 @@ fn work(
         answers.push(answer)?;
         let words = CallText(*call).to_string(rt.alloc())?;
         let answer = AnswerText(*call, answer);
-        writeln!(told, "{words:<54}  {answer}")?;
+        writeln!(text, "{words:<54}  {answer}")?;
     }
     Ok(answers)
 }
 
 // A line for each run of changed bytes.
 fn tell_changes(
-    told: &mut String,
+    text: &mut String,
     before: &[u8],
     desk: &Desk<'_>,
     calls: &[Call<'_>],
@@ -80,31 +80,31 @@ fn tell_changes(
 ) -> Result<(), Fault> {
     for change in desk.changes(before) {
         let change = TracedChange::of(&desk.job, calls, answers, change)?;
-        writeln!(told, "changed: {change}")?;
+        writeln!(text, "changed: {change}")?;
     }
     let total = changed_bytes(before, desk.file);
-    writeln!(told, "changed: {total} bytes in all")?;
+    writeln!(text, "changed: {total} bytes in all")?;
     Ok(())
 }
 
 // What is told of a texture: each step with its answer, then what changed.
 fn work_and_tell(
     rt: &HostRuntime,
-    told: &mut String,
+    text: &mut String,
     path: &str,
     before: &[u8],
     desk: &mut Desk<'_>,
 ) -> Result<(), Fault> {
     let length = desk.file.len();
-    tell_file(told, "open", path, length)?;
+    tell_file(text, "open", path, length)?;
     let calls = steps(last_piece(&desk.job, length as u64));
-    let answers = work(rt, told, &calls, desk)?;
-    tell_changes(told, before, desk, &calls, &answers)
+    let answers = work(rt, text, &calls, desk)?;
+    tell_changes(text, before, desk, &calls, &answers)
 }
 
 fn retouch(
     rt: &HostRuntime,
-    told: &mut String,
+    text: &mut String,
     path: &str,
     before: &[u8],
     file: &mut [u8],
@@ -115,7 +115,7 @@ fn retouch(
     let mut job = Job::empty();
     let docket = job.open(file, 1, &BuiltInCodes)?;
     let mut desk = Desk { job, file, shelves };
-    let worked = work_and_tell(rt, told, path, before, &mut desk);
+    let worked = work_and_tell(rt, text, path, before, &mut desk);
     let ended = desk.finish(docket);
     worked?;
     let report = ended?;
@@ -123,7 +123,7 @@ fn retouch(
     let kept = report.kept;
     let cancelled = report.cancelled;
     writeln!(
-        told,
+        text,
         "ship: {granted} loans granted, {kept} kept, {cancelled} cancelled"
     )?;
     Ok(())
@@ -158,23 +158,23 @@ fn write_whole(rt: &HostRuntime, out: &str, bytes: &[u8]) -> Result<(), Fault> {
 }
 
 // The memory for the line that tells of the output is there before that is written.
-fn run(rt: &HostRuntime, told: &mut String, path: &str, out: Option<&str>) -> Result<(), Fault> {
+fn run(rt: &HostRuntime, text: &mut String, path: &str, out: Option<&str>) -> Result<(), Fault> {
     let before = fs::read(rt, path).map_err(Fault::Unreadable)?;
     let mut file = before.clone()?;
-    retouch(rt, told, path, &before, &mut file)?;
+    retouch(rt, text, path, &before, &mut file)?;
     if let Some(out) = out {
         let mut line = String::new(rt.alloc());
         tell_file(&mut line, "write", out, file.len())?;
-        told.reserve(line.len())?;
+        text.reserve(line.len())?;
         write_whole(rt, out, &file)?;
-        told.push_str(line.as_str())?;
+        text.push_str(line.as_str())?;
     }
     Ok(())
 }
 
 // All at once and last, so that a reader who goes away leaves the output whole; that is no fault.
-fn print(rt: &HostRuntime, told: &str) -> Result<(), Fault> {
-    match rt.stdout().write_all(told.as_bytes()) {
+fn print(rt: &HostRuntime, text: &str) -> Result<(), Fault> {
+    match rt.stdout().write_all(text.as_bytes()) {
         Err(error) if error.kind() != ErrorKind::BrokenPipe => Err(Fault::Output(error)),
         _ => Ok(()),
     }
@@ -207,13 +207,13 @@ fn main(rt: HostRuntime) -> io::Result<ExitCode> {
         }
     };
     let out = args.get(1).map(|out| out.as_str());
-    let mut told = String::new(rt.alloc());
+    let mut text = String::new(rt.alloc());
     let ended = if path == "--help" {
-        writeln!(told, "{USAGE}").map_err(Fault::Memory)
+        writeln!(text, "{USAGE}").map_err(Fault::Memory)
     } else {
-        run(&rt, &mut told, path, out)
+        run(&rt, &mut text, path, out)
     };
-    let printed = print(&rt, told.as_str());
+    let printed = print(&rt, text.as_str());
     match ended.and(printed) {
         Ok(()) => Ok(ExitCode::SUCCESS),
         Err(fault) => {
