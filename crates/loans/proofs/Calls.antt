@@ -24,7 +24,7 @@ after_all_push s ds d = after_all_append s ds (d ∷ [])
 pub answers_to_push : (s : State) (ds : List Request) (d : Request) → answers_to s (ds ++ d ∷ []) ≡ answers_to s ds ++ answer_to (after_all s ds) d ∷ []
 answers_to_push s ds d = answers_to_append s ds (d ∷ [])
 
--- the history of calls after calls
+-- the journal of calls after calls
 pub written_down_append : (h : List Event) (s : State) (ds more : List Request)
     → written_down h (ds ++ more) (answers_to s (ds ++ more)) ≡ written_down (written_down h ds (answers_to s ds)) more (answers_to (after_all s ds) more)
 written_down_append h s [] more = refl

@@ -1,4 +1,4 @@
--- The invariant of a history, over every loan ever granted, the loans out and the strokes that stand; and that each call keeps it.
+-- The invariant of a journal, over every loan ever granted, the loans out and the strokes that stand; and that each call keeps it.
 use Rattle.std.proofs.Common.{◌≡◌, ℕ, suc, Some, ◌+◌, ◌*◌, ◌<◌, ◌≤◌, true, false, cond, not, eqb, ◌⊎◌, List, [], ◌∷◌, ◌++◌, reverse, length, sym, refl, ap, ◌∙◌, subst, inl, inr, mul-le-mul_right, suc-mul, mul_comm, arith, ◌||◌}
 use Rattle.std.specs.List.{All, find}
 use Rattle.std.specs.Option.{unwrap_or}

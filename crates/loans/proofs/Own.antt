@@ -1,4 +1,4 @@
--- The job, file and shelves that a history tells: the shelves are the job's, and the file has the opening's length.
+-- The job, file and shelves that a journal tells: the shelves are the job's, and the file has the opening's length.
 use Rattle.std.proofs.Common.{◌≡◌, ℕ, true, false, List, [], ◌∷◌, map, length, Some, sym, refl, ap, ◌∙◌, subst, arith}
 use Rattle.std.specs.List.{All}
 use Rattle.std.proofs.lemmas.List.Elements.{All-head, All-tail}

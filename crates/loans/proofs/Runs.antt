@@ -68,7 +68,7 @@ module _ (y : Layout) (number mm mb : ℕ) (opening : List ℕ) (lawful : Lawful
       own_answer (call_refusal (here h) d) _
       (not_anothers (here h) (replayed_same y number mm mb opening (lent t h) (out_in t h) (keeps_in h) (cancels_in h) (standing t opening h) same) (here_own h f) d)
 
-  -- what holds after a history
+  -- what holds after a journal
   record After (s : State) (h : List Event) : Type 0 where
     answers : Answered y number mm mb opening h
     own : All TakenAsOwn h
@@ -156,7 +156,7 @@ law_run y number file k ds e a b =
     (after_all_lem y number k.most_marks k.most_bytes file l e ds (opened_state y number file k) []
     (opened y number k.most_marks k.most_bytes file l e k a b refl refl))
 
--- the law's clauses together give job, file and shelves back as the history tells them
+-- the law's clauses together give job, file and shelves back as the journal tells them
 pub replayed_again : (y : Layout) (number mm mb : ℕ) (opening : List ℕ) (h : List Event) (s : State) → Law y number mm mb opening h s
     → s ≡ replayed y number mm mb opening h
 replayed_again y number mm mb opening h s law =

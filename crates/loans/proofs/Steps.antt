@@ -1,4 +1,4 @@
--- A call that is carried out leaves what the history tells, and keeps the invariant.
+-- A call that is carried out leaves what the journal tells, and keeps the invariant.
 use Rattle.std.proofs.Common.{◌≡◌, ℕ, suc, ◌+◌, ◌<◌, ◌≤◌, Bool, true, false, not, ◌||◌, eqb, ltb, leb, ◌⊎◌, List, [], ◌∷◌, ◌++◌, map, length, take, drop, Some, None, sym, refl, ap, ◌∙◌, subst, ap₂, inl, inr, arith}
 use lib.Seq.{paste}
 use Rattle.std.specs.List.{All}

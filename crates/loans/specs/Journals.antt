@@ -1,4 +1,4 @@
--- What was lent, what is out and which strokes stand, read off the calls and their answers alone. A history has its newest event first.
+-- What was lent, what is out and which strokes stand, read off the calls and their answers alone. a journal has its newest event first.
 use Rattle.std.specs.Prelude.{ℕ, ◌+◌, ◌-◌, Bool, cond, ◌&&◌, List, [], ◌∷◌, ◌++◌, map, reverse, length, Some, Ok, Err, Result, filter, ◌==◌, nat_le, nat_lt, slice_index}
 use Rattle.std.specs.List.{range_with_len, flat_map}
 use Rattle.refusal.specs.declared.Refusal.{Refusal}
@@ -21,13 +21,13 @@ pub record Event : Type 0 where
   pub call : Request
   pub answer : Result ℕ Refusal
 
--- the calls in order, each with its answer, written down behind a history
+-- the calls in order, each with its answer, written down behind a journal
 abbrev pub written_down : List Event → List Request → List (Result ℕ Refusal) → List Event
 written_down h [] rs = h
 written_down h (d ∷ ds) [] = h
 written_down h (d ∷ ds) (r ∷ rs) = written_down (record { call = d; answer = r } ∷ h) ds rs
 
--- the history of a list of calls and their answers
+-- the journal of a list of calls and their answers
 abbrev pub journal_of : List Request → List (Result ℕ Refusal) → List Event
 journal_of ds rs = written_down [] ds rs
 
@@ -153,7 +153,7 @@ abbrev pub shelved : ℕ → ℕ → List Stroke → Stock
 shelved most_marks' most_bytes' ss =
     record { marks = map mark_of ss; bytes = flat_map (λ (s : Stroke). s.below) ss; most_marks = most_marks'; most_bytes = most_bytes' }
 
--- the job that a history tells: the loans out, how many were granted, kept and cancelled, and the counts of these shelves
+-- the job that a journal tells: the loans out, how many were granted, kept and cancelled, and the counts of these shelves
 abbrev pub replayed_book : Layout → ℕ → List Event → Stock → Book
 replayed_book y number' h k =
     recounted (record (fresh_book y (Some number')) {
@@ -167,7 +167,7 @@ replayed_book y number' h k =
 abbrev pub replayed_stock : Table → ℕ → ℕ → List ℕ → List Event → Stock
 replayed_stock t most_marks' most_bytes' opening h = shelved most_marks' most_bytes' (undoable (out_in t h) (standing t opening h))
 
--- the job, file and shelves that a history tells of a job opened with a layout, a number and a file, on shelves of these capacities;
+-- the job, file and shelves that a journal tells of a job opened with a layout, a number and a file, on shelves of these capacities;
 -- each byte of the file is that of the newest stroke standing over it, else the opening's
 abbrev pub replayed : Layout → ℕ → ℕ → ℕ → List ℕ → List Event → State
 replayed y number' most_marks' most_bytes' opening h =

@@ -73,7 +73,7 @@ CountsMarks ms l = l.strokes ≡ marks_of l.number ms
 abbrev pub undoable_in : Table → List ℕ → List Event → List Stroke
 undoable_in t opening h = undoable (out_in t h) (standing t opening h)
 
--- what holds of job, file and shelves after a history
+-- what holds of job, file and shelves after a journal
 pub record Law (y : Layout) (number most_marks most_bytes : ℕ) (opening : List ℕ) (h : List Event) (s : State) : Type 0 where
   -- the file is as long as the opening's
   pub same_length : length s.file ≡ length opening

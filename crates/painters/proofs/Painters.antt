@@ -259,7 +259,7 @@ past_more cs rs k dc dr i j =
     let one : suc k ≡ k + 1 = omega arith in
     subst (λ x. past_of cs rs x ≡ record { call = request_of (get_or cs k dc); answer = get_or rs k dr } ∷ past_of cs rs k) one (written_more [] cs rs k dc dr i j)
 
--- what a walk over pairs of a call and its answer finds out, and what is found out of their history
+-- what a walk over pairs of a call and its answer finds out, and what is found out of their journal
 abbrev pub folded : ℕ → List (Call × Result ℕ Refusal) → Option Piece
 folded n ps = fold (λ o p. piece_after n o (request_of p.0) p.1) None ps
 

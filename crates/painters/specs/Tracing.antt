@@ -110,7 +110,7 @@ owed n [] rs = Some 0
 owed n (c ∷ cs) [] = Some 0
 owed n (c ∷ cs) (r ∷ rs) = owed_before n (owed n cs rs) (request_of c) r
 
--- the piece that is out already, or else the one that is lent under the number; so of two in a made-up history the first
+-- the piece that is out already, or else the one that is lent under the number; so of two in a made-up journal the first
 abbrev pub unless_out : Option Piece → Bool → Piece → Option Piece
 unless_out (Some q) b p = Some q
 unless_out None b p = cond b (Some p) None
@@ -123,7 +123,7 @@ piece_after n o (keep m) (Ok x) = cond (m == n) None o
 piece_after n o (cancel m) (Ok x) = cond (m == n) None o
 piece_after n o d (Ok x) = o
 
--- the piece of the loan of a number that is out after a history
+-- the piece of the loan of a number that is out after a journal
 abbrev pub piece_out : ℕ → List Event → Option Piece
 piece_out n [] = None
 piece_out n (e ∷ h) = piece_after n (piece_out n h) e.call e.answer
