@@ -1,4 +1,4 @@
--- What was lent, what is out and which strokes stand, read off the calls and their answers alone. a journal has its newest event first.
+-- What was lent, what is out and which strokes stand, read off the calls and their answers alone. A journal has its newest event first.
 use Rattle.std.specs.Prelude.{ℕ, ◌+◌, ◌-◌, Bool, cond, ◌&&◌, List, [], ◌∷◌, ◌++◌, map, reverse, length, Some, Ok, Err, Result, filter, ◌==◌, nat_le, nat_lt, slice_index}
 use Rattle.std.specs.List.{range_with_len, flat_map}
 use Rattle.refusal.specs.declared.Refusal.{Refusal}
