@@ -1,5 +1,5 @@
 // What is read of a file to open it.
-ghost use Rattle.std.specs.Prelude.{◌≡◌};
+ghost use Rattle.std.specs.Prelude.{◌≡◌, length, take};
 ghost use Rattle.dds.specs.Readings.{reading_of, reading_in};
 
 /// A file's head, which is its first 148 bytes or the whole of a shorter one, and the file's length.
@@ -14,7 +14,9 @@ pub struct FileHead<'a> {
 impl<'a> FileHead<'a> {
     /// The head of a file that is all in memory.
     pub fn of(file: &'a [u8]) -> FileHead<'a>
-        ensures { reading_in result ≡ reading_of file.now }
+        ensures head { result.bytes.now ≡ take 148 file.now }
+        ensures length { result.length ≡ length file.now }
+        ensures read { reading_in result ≡ reading_of file.now }
     {
         FileHead {
             bytes: &file[..file.len().min(148)],

@@ -49,6 +49,19 @@ pub record Ordered : Type 0 where
   pub old : List (Result ℕ Refusal)
   pub room : ℕ
 
+-- such a run by its parts, in that order
+abbrev pub ordered : List ℕ → ℕ → (ℕ → ℕ → ℕ) → (ℕ → ℕ → ℕ) → Shelves → List Request → List (Result ℕ Refusal) → ℕ → Ordered
+ordered file number row_bytes rows shelves calls old room = record {
+  file = file;
+  number = number;
+  row_bytes = row_bytes;
+  rows = rows;
+  shelves = shelves;
+  calls = calls;
+  old = old;
+  room = room;
+}
+
 -- what opening the file answers
 abbrev pub FileOpened : Ordered → Result Layout Refusal → Type 0
 FileOpened o r = Opened (reading_of o.file) HandedIn o.row_bytes o.rows r

@@ -5,7 +5,7 @@ ghost use Rattle.loans.specs.Strokes.{state_of};
 ghost use Rattle.loans.specs.Rules.{request_of};
 ghost use Rattle.loans.specs.Calls.{Called};
 ghost use Rattle.loans.specs.Handed.{HandedBy};
-ghost use Rattle.loans.specs.Runs.{AllDone, OwnAlong, is_empty, Ran};
+ghost use Rattle.loans.specs.Runs.{AllDone, OwnAlong, is_empty, Ran, ordered};
 
 use crate::call::{Answer, Call};
 use crate::docket::Docket;
@@ -106,16 +106,10 @@ pub fn run<F: Family>(
     calls: &[Call<'_>],
     answers: &mut Vec<Answer>,
 ) -> Result<Docket, RunFault>
-    ensures { Ran (record {
-      file = file.old;
-      number = number;
-      row_bytes = F.row_bytes family.now;
-      rows = F.rows family.now;
-      shelves = shelves.old;
-      calls = map request_of calls.now;
-      old = answers.old.items;
-      room = vec_capacity answers.old;
-    }) job.old result job.new file.new shelves.new answers.new.items }
+    ensures { Ran
+        (ordered file.old number (F.row_bytes family.now) (F.rows family.now) shelves.old
+        (map request_of calls.now) answers.old.items (vec_capacity answers.old))
+        job.old result job.new file.new shelves.new answers.new.items }
 {
     let layout = Layout::read_with(FileHead::of(file), family)?;
     if answers.capacity() - answers.len() < calls.len() {

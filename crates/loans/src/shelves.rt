@@ -6,9 +6,9 @@ use crate::mark::Mark;
 use shelf::Shelf;
 use std::marker::Model;
 
-/// A job's two shelves: the marks of its undoable strokes and, in the same order, the bytes that they covered.
 // A call takes the file beside them, and not in one struct with them: a keep needs no file and a show no shelves, and callers read the
 // file between calls, so a struct of both borrows would be made anew for each.
+/// A job's two shelves: the marks of its undoable strokes and, in the same order, the bytes that they covered.
 #[derive(Drop)]
 pub struct Shelves<'a> {
     pub(crate) marks: Shelf<'a, Mark>,

@@ -5,6 +5,7 @@ use Rattle.dds.specs.declared.source.FormatSource.TheVariants.{HandedIn}
 use Rattle.dds.specs.Readings.{Reading}
 use Rattle.dds.specs.Layouts.{Opened}
 use Rattle.loans.specs.Rules.{request_of}
+use Rattle.loans.specs.Runs.{ordered}
 use Rattle.loans.proofs.RunMade.{opened_along, run_made}
 use Rattle.loans.proofs.running.run.Goals as goal
 
@@ -13,7 +14,7 @@ returns-in_err-layout g c =
     let p = err_from_is_err_and c.from_residual.result c.from_residual.ensures.1 in
     rw (p.1, p.2) (
       subst (λ (x : Reading). Opened x HandedIn (g.F.Family.row_bytes c.args.family.now) (g.F.Family.rows c.args.family.now) (Err c.in_err-layout.field-0.0))
-          c.of.ensures c.in_err-layout.ensures,
+          c.of.ensures.read c.in_err-layout.ensures,
       (refl, refl, refl, refl),
     )
 
@@ -22,7 +23,7 @@ returns-then-capacity-len g c = (
   (
     c.in_ok-layout.layout,
     subst (λ (x : Reading). Opened x HandedIn (g.F.Family.row_bytes c.args.family.now) (g.F.Family.rows c.args.family.now) (Ok c.in_ok-layout.layout))
-        c.of.ensures c.in_ok-layout.ensures,
+        c.of.ensures.read c.in_ok-layout.ensures,
   ),
   omega (arith, length-map c.args.calls.now request_of),
   (refl, refl, refl, refl),
@@ -32,23 +33,15 @@ pub call_all-requires-clause-along : goal.call_all-requires-clause-along
 call_all-requires-clause-along g c =
     let opened =
     subst (λ (x : Reading). Opened x HandedIn (g.F.Family.row_bytes c.args.family.now) (g.F.Family.rows c.args.family.now) (Ok c.in_ok-layout.layout))
-    c.of.ensures c.in_ok-layout.ensures in
-    opened_along (record {
-      file = c.args.file.now;
-      number = c.args.number;
-      row_bytes = g.F.Family.row_bytes c.args.family.now;
-      rows = g.F.Family.rows c.args.family.now;
-      shelves = c.args.shelves.now;
-      calls = map request_of c.args.calls.now;
-      old = vec_items c.args.answers.now;
-      room = vec_capacity c.args.answers.now;
-    }) c.fresh-opened.result c.in_ok-layout.layout opened c.fresh-opened.ensures
+    c.of.ensures.read c.in_ok-layout.ensures in
+    opened_along (ordered c.args.file.now c.args.number (g.F.Family.row_bytes c.args.family.now) (g.F.Family.rows c.args.family.now)
+    c.args.shelves.now (map request_of c.args.calls.now) (vec_items c.args.answers.now) (vec_capacity c.args.answers.now)) c.fresh-opened.result c.in_ok-layout.layout opened c.fresh-opened.ensures
     c.are_empty.result c.are_empty.ensures
 
 pub returns : goal.returns
 returns g c =
     let opened =
     subst (λ (x : Reading). Opened x HandedIn (g.F.Family.row_bytes c.args.family.now) (g.F.Family.rows c.args.family.now) (Ok c.in_ok-layout.layout))
-    c.of.ensures c.in_ok-layout.ensures in
+    c.of.ensures.read c.in_ok-layout.ensures in
     run_made _ c.fresh-opened.result c.in_ok-layout.layout opened c.fresh-opened.ensures
     c.of-2.result c.of-2.ensures (omega (arith, length-map c.args.calls.now request_of, c.capacity.ensures, c.len.ensures)) _ _ _ refl c.call_all.ensures
