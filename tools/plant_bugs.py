@@ -1,5 +1,5 @@
 #!/usr/bin/env python3
-"""Tries the planted bugs: small wrong bodies of public functions, which the proof of their crate must refuse.
+"""Tries the planted bugs: small wrong bodies of functions, which the proof of their crate must refuse.
 
 usage: tools/plant_bugs.py [CRATE..] [--only WORD] [--jobs N] [--count]
 
@@ -10,7 +10,7 @@ planted/CRATE.txt has the bugs of a library crate, in blocks with a blank line b
     old: self.table.length
     new: self.table.stride
 
-The first line has the function in whose body the bug lies, and what is wrong; the others the file, in the crate's folder, a text that
+The first line has the function in whose body the bug lies, public or not, and what is wrong; the others the file, in the crate's folder, a text that
 stands in it exactly once, and what stands there instead. More pairs of an old and a new text may follow, each applied to what those
 before it made.
 
@@ -24,8 +24,8 @@ It ends with status 1 where a bug PASSED or is BAD. --only tries those with WORD
 run at once, 2 if it is not given.
 
 --count tries nothing. It prints for each public function how many edits of the gate (must-fail/) and how many planted bugs lie in
-its body, and ends with status 1 where they are fewer than three. planted/FEWER.txt excuses a function of which three cannot be
-made, by a line 'Type::function: reason'.
+its body, and how many bugs lie in other functions. It ends with status 1 where one cannot be applied, or where a public function has
+fewer than three. planted/FEWER.txt excuses a function of which three cannot be made, by a line 'Type::function: reason'.
 """
 import argparse
 import concurrent.futures
@@ -49,7 +49,7 @@ QUIET = re.compile(r"//[^\n]*|b?\"(?:\\.|[^\"\\])*\"|b?'(?:\\.|[^'\\\n])'", re.S
 OPENING, CLOSING = "([{", ")]}"
 
 
-# ---- the public functions of a crate
+# ---- the functions of a crate
 
 def bare(text):
     """The text with comments, strings and characters blanked out, at the same places."""
@@ -101,30 +101,30 @@ def exported(crate):
     return set(names)
 
 
+VISIBLE = r"(pub(?:\(crate\))? )?"
+
+
 def functions_in(text, names):
-    """The public functions of a file's text, each with its name and where its body begins and ends. `names` are exported."""
+    """The functions of a file's text: of each its name, where its body begins and ends, and whether it is public. `names` are exported."""
     text = bare(text)
     found = []
     place = 0
     # Top-level items alone begin at a line's beginning.
-    for item in re.finditer(r"^(pub fn (\w+)|impl\b([^{]*)\{)", text, re.M):
+    for item in re.finditer(rf"^(?:{VISIBLE}fn (\w+)|impl\b([^{{]*)\{{)", text, re.M):
         if item.start() < place:
             continue
         if item[2]:
             span = body_of(text, item.end())
-            if item[2] in names and span:
-                found.append((item[2], *span))
+            if span:
+                found.append((item[2], *span, item[1] == "pub " and item[2] in names))
             continue
         place = closing(text, item.end() - 1)
         owner, is_trait, arguments = owner_of(item[3])
-        if owner not in names:
-            continue
         # The members of an impl stand four spaces in. Those of a trait's impl have no `pub`, and are as public as the type.
-        members = r"^    fn (\w+)" if is_trait else r"^    pub fn (\w+)"
-        for member in re.compile(members, re.M).finditer(text, item.end(), place):
+        for member in re.compile(rf"^    {VISIBLE}fn (\w+)", re.M).finditer(text, item.end(), place):
             span = body_of(text, member.end())
             if span:
-                found.append((f"{owner}::{member[1]}{arguments}", *span))
+                found.append((f"{owner}::{member[2]}{arguments}", *span, owner in names and (is_trait or member[1] == "pub ")))
     return found
 
 
@@ -134,8 +134,9 @@ def functions_of(crate):
     found = {}
     for path in sorted((ROOT / "crates" / crate / "src").glob("**/*.rt")):
         text = path.read_text()
-        for name, begin, _ in functions_in(text, names):
-            found[name] = f"{path.relative_to(ROOT / 'crates' / crate)}:{text.count(chr(10), 0, begin) + 1}"
+        for name, begin, _, is_public in functions_in(text, names):
+            if is_public:
+                found[name] = f"{path.relative_to(ROOT / 'crates' / crate)}:{text.count(chr(10), 0, begin) + 1}"
     return found
 
 
@@ -167,8 +168,8 @@ class Bug:
         return self.title.partition(": ")[0]
 
     def applied(self):
-        """The texts of the files with the bug, and in which public functions' bodies its pairs lie. Each pair applies to what those
-        before it made."""
+        """The texts of the files with the bug, and in which functions' bodies its pairs lie. Each pair applies to what those before
+        it made."""
         names = exported(self.crate)
         folder = ROOT / "crates" / self.crate
         texts = {file: (folder / file).read_text() for file, _, _ in self.pairs}
@@ -179,7 +180,7 @@ class Bug:
             if text.count(old) != 1:
                 raise ValueError(f"'{old}' stands in {file} {text.count(old)} times, and not once")
             place = text.index(old)
-            touched |= {name for name, begin, end in functions_in(text, names) if begin <= place and place + len(old) <= end}
+            touched |= {name for name, begin, end, _ in functions_in(text, names) if begin <= place and place + len(old) <= end}
             texts[file] = text.replace(old, new)
         if texts == was:
             raise ValueError("it changes nothing")
@@ -208,10 +209,10 @@ def count(crates):
     path = ROOT / "planted/FEWER.txt"
     fewer = dict(line.split(": ", 1) for line in path.read_text().splitlines() if line) if path.exists() else {}
     is_well = True
-    total = [0, 0, 0]
+    total = [0, 0, 0, 0]
     for crate in crates:
         functions = functions_of(crate)
-        gate, planted = dict.fromkeys(functions, 0), dict.fromkeys(functions, 0)
+        gate, planted, inner = dict.fromkeys(functions, 0), dict.fromkeys(functions, 0), 0
         for counts, bugs in (gate, edits_in(crate)), (planted, planted_in(crate)):
             for bug in bugs:
                 try:
@@ -220,8 +221,10 @@ def count(crates):
                     print(f"{crate}: BAD {bug.title or bug.pairs}: {error}")
                     is_well = False
                     continue
-                for name in [bug.function] if bug.title else touched:
+                inside = [name for name in ([bug.function] if bug.title else touched) if name in functions]
+                for name in inside:
                     counts[name] += 1
+                inner += bool(bug.title and not inside)
         for name, where in functions.items():
             few = gate[name] + planted[name] < WANTED
             told = f": fewer: {fewer[name]}" if few and name in fewer else ": FEWER THAN THREE" if few else ""
@@ -229,11 +232,15 @@ def count(crates):
             if few:
                 fewer.pop(name, None)
             print(f"{crate} {name} ({where}): {gate[name]} of the gate, {planted[name]} planted{told}")
-        total = [one + more for one, more in zip(total, (len(functions), sum(gate.values()), sum(planted.values())))]
+        counted = len(functions), sum(gate.values()), sum(planted.values()), inner
+        total = [one + more for one, more in zip(total, counted)]
     for name in fewer if crates == LIBRARIES else ():
         print(f"planted/FEWER.txt: {name} has enough, or is no public function")
         is_well = False
-    print(f"{total[0]} public functions; in their bodies {total[1]} edits of the gate and {total[2]} planted bugs")
+    print(
+        f"{total[0]} public functions; in their bodies {total[1]} edits of the gate and {total[2]} planted bugs, "
+        f"and {total[3]} planted in other functions"
+    )
     return is_well
 
 
