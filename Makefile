@@ -38,7 +38,7 @@ memory: target/bin/cuivakko
 	cd crates/loans_tests && rt test >/dev/null
 	tools/fail_alloc.sh target/bin
 
-# At least three bugs in each public function, with the edits of the gate, but for those of planted/FEWER.txt.
+# At least three bugs in each public function, with the edits of the gate, but for those of planted/FEWER.txt; some in private ones too.
 planted:
 	tools/plant_bugs.py --count && tools/plant_bugs.py
 
