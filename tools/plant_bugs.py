@@ -10,9 +10,9 @@ planted/CRATE.txt has the bugs of a library crate, in blocks with a blank line b
     old: self.table.length
     new: self.table.stride
 
-The first line has the function in whose body the bug lies, public or not, and what is wrong; the others the file, in the crate's folder, a text that
-stands in it exactly once, and what stands there instead. More pairs of an old and a new text may follow, each applied to what those
-before it made.
+The first line has the function in whose body the bug lies, public or not, and what is wrong; the others the file, in the crate's
+folder, a text that stands in it exactly once, and what stands there instead. More pairs of an old and a new text may follow, each
+applied to what those before it made.
 
 Each bug is tried on a copy of the repository, alone, and `rt check` judges it:
 
