@@ -4,7 +4,7 @@ use Rattle.std.proofs.lemmas.List.{take_more, take-map, map_push}
 use Rattle.refusal.specs.declared.Refusal.{Refusal}
 use Rattle.loans.specs.declared.call.Call.{Call}
 use Rattle.loans.specs.Books.{Book}
-use Rattle.loans.specs.Stocks.{Stock, are_own}
+use Rattle.loans.specs.Stocks.{ShelfPair, stock_of, are_own}
 use Rattle.loans.specs.Strokes.{State, state_of}
 use Rattle.loans.specs.Rules.{Request, request_of, carried_out, number_for, refusal_or, left, answer_to, after, answers_to, after_all}
 use Rattle.loans.specs.Calls.{Called}
@@ -12,18 +12,18 @@ use Rattle.loans.specs.Runs.{OwnAlong, AllDone}
 use Rattle.loans.proofs.Calls.{after_all_push, answers_to_push}
 
 -- a call that keeps its promise answers and leaves what the rules say
-pub called_answer : (d : Request) (j j' : Book) (f f' : List ℕ) (v v' : Stock) (r : Result ℕ Refusal) → Called d j f v r j' f' v'
-    → r ≡ answer_to (state_of j f v) d
+pub called_answer : (d : Request) (j j' : Book) (f f' : List ℕ) (v v' : ShelfPair) (r : Result ℕ Refusal) → Called d j f v r j' f' v'
+    → r ≡ answer_to (state_of j f (stock_of v)) d
 called_answer d j j' f f' v v' (Ok n) c =
     sym (ap₂ (λ (e : Option Refusal) (k : ℕ). refusal_or e k) c.none (sym c.answer))
-called_answer d j j' f f' v v' (Err e) c = sym (ap (λ (x : Option Refusal). refusal_or x (number_for (carried_out (state_of j f v) d) d)) c.0)
+called_answer d j j' f f' v v' (Err e) c = sym (ap (λ (x : Option Refusal). refusal_or x (number_for (carried_out (state_of j f (stock_of v)) d) d)) c.0)
 
-pub called_state : (d : Request) (j j' : Book) (f f' : List ℕ) (v v' : Stock) (r : Result ℕ Refusal) → Called d j f v r j' f' v'
-    → state_of j' f' v' ≡ after (state_of j f v) d
+pub called_state : (d : Request) (j j' : Book) (f f' : List ℕ) (v v' : ShelfPair) (r : Result ℕ Refusal) → Called d j f v r j' f' v'
+    → state_of j' f' (stock_of v') ≡ after (state_of j f (stock_of v)) d
 called_state d j j' f f' v v' (Ok n) c =
-    c.state ∙ sym (ap (λ (x : Option Refusal). left x (state_of j f v) (carried_out (state_of j f v) d)) c.none)
+    c.state ∙ sym (ap (λ (x : Option Refusal). left x (state_of j f (stock_of v)) (carried_out (state_of j f (stock_of v)) d)) c.none)
 called_state d j j' f f' v v' (Err e) c =
-    (λ i. state_of (c.1 i) (c.2 i) (c.3 i)) ∙ sym (ap (λ (x : Option Refusal). left x (state_of j f v) (carried_out (state_of j f v) d)) c.0)
+    (λ i. state_of (c.1 i) (c.2 i) (stock_of (c.3 i))) ∙ sym (ap (λ (x : Option Refusal). left x (state_of j f (stock_of v)) (carried_out (state_of j f (stock_of v)) d)) c.0)
 
 -- after the first i calls
 pub record Along (s₀ s : State) (cs : List Call) (i : ℕ) (old items : List (Result ℕ Refusal)) (len cap : ℕ) : Type 0 where

@@ -15,6 +15,7 @@ mod Soundness
 mod Shelved
 pub mod Outs
 mod Invariant
+mod Items
 mod Own
 mod TakenAsOwn
 mod Steps

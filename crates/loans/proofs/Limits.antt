@@ -4,7 +4,7 @@ use Rattle.std.specs.Prelude.{IfOk}
 use Rattle.refusal.specs.declared.Refusal.{Refusal}
 use Rattle.loans.specs.Books.{Book, Orderly}
 use Rattle.loans.specs.Calls.{Called}
-use Rattle.loans.specs.Stocks.{Stock, Fits, SameRoom, answer_limit}
+use Rattle.loans.specs.Stocks.{Stock, ShelfPair, stock_of, Fits, SameRoom, answer_limit}
 use Rattle.loans.specs.Strokes.{State, state_of}
 use Rattle.loans.specs.Rules.{Request, number_for, left, after, after_all, call_refusal, carried_out}
 use Rattle.loans.specs.Rules.Request.{lend, paint, undo}
@@ -48,14 +48,14 @@ number_within s c (paint p) = omega (arith, c.marks, marks_few p.loan s.stock.ma
 number_within s c (undo n who) = omega (arith, c.marks, marks_few n s.stock.marks)
 number_within s c d = omega (arith, c.outs)
 
-module _ (d : Request) (j j' : Book) (f f' : List ℕ) (v v' : Stock) where
-  pub called_room : (r : Result ℕ Refusal) → Called d j f v r j' f' v' → SameRoom v v'
+module _ (d : Request) (j j' : Book) (f f' : List ℕ) (v v' : ShelfPair) where
+  pub called_room : (r : Result ℕ Refusal) → Called d j f v r j' f' v' → SameRoom (stock_of v) (stock_of v')
   called_room r c =
-      subst (λ (s : State). SameRoom v s.stock) (sym (called_state d j j' f f' v v' r c)) (same_after (state_of j f v) d)
+      subst (λ (s : State). SameRoom (stock_of v) s.stock) (sym (called_state d j j' f f' v v' r c)) (same_after (state_of j f (stock_of v)) d)
 
-  pub called_within : Orderly j' → Fits v' → (r : Result ℕ Refusal) → Called d j f v r j' f' v' → IfOk r (λ n. n ≤ answer_limit v)
+  pub called_within : Orderly j' → Fits (stock_of v') → (r : Result ℕ Refusal) → Called d j f v r j' f' v' → IfOk r (λ n. n ≤ answer_limit (stock_of v))
   called_within orderly fits (Ok n) c =
       let same = called_room (Ok n) c in
-      let counted : Counted (state_of j' f' v') = record { granted = orderly.numbers; outs = orderly.few; marks = fits.marks } in
-      omega (arith, same.marks, c.answer, ap (λ (s : State). number_for s d) c.state, number_within (state_of j' f' v') counted d)
+      let counted : Counted (state_of j' f' (stock_of v')) = record { granted = orderly.numbers; outs = orderly.few; marks = fits.marks } in
+      omega (arith, same.marks, c.answer, ap (λ (s : State). number_for s d) c.state, number_within (state_of j' f' (stock_of v')) counted d)
   called_within orderly fits (Err e) c = tt

@@ -10,7 +10,7 @@ use Rattle.loans.specs.declared.mark.Mark.{Mark}
 use Rattle.loans.specs.Lists.{less_all}
 use Rattle.loans.specs.Ledgers.{no_loan}
 use Rattle.loans.specs.Books.{Book, Orderly}
-use Rattle.loans.specs.Stocks.{Stock, is_number, is_out, the_loan, of_loan, lengths, lies_in, is_sound, all_sound, are_own}
+use Rattle.loans.specs.Stocks.{ShelfPair, stock_of, is_number, is_out, the_loan, of_loan, lengths, lies_in, is_sound, all_sound, are_own}
 use Rattle.loans.specs.Strokes.{State, state_of, is_other_length, counted_loan}
 use Rattle.loans.specs.LoanEnds.{bytes_of, stock_without, restored, InFile, cancel_refusal, cancelled, all_cancelled}
 use Rattle.loans.specs.steps.Finding.{IsAt}
@@ -100,8 +100,11 @@ pub record Cancelling (s₀ s : State) : Type 0 where
   pub own : WithOwn s
   pub rest : all_cancelled s.book.outs s ≡ all_cancelled s₀.book.outs s₀
 
-module _ (s₀ : State) (s : Book) (orderly : Orderly s) (f : List ℕ) (v : Stock) (c : Cancelling s₀ (state_of s f v)) (some : 0 < length s.outs) (n : ℕ)
+module _ (s₀ : State) (s : Book) (orderly : Orderly s) (f : List ℕ) (v : ShelfPair) (c : Cancelling s₀ (state_of s f (stock_of v))) (some : 0 < length s.outs) (n : ℕ)
     (first : n ≡ (get_or s.outs 0 no_loan).number) where
+  abbrev here : State
+  here = state_of s f (stock_of v)
+
   abbrev ls : List Loan
   ls = s.outs
 
@@ -114,29 +117,29 @@ module _ (s₀ : State) (s : Book) (orderly : Orderly s) (f : List ℕ) (v : Sto
   all_is : ls ≡ get_or ls 0 no_loan ∷ drop 1 ls
   all_is = drop_more ls 0 no_loan some
 
-  none : cancel_refusal (state_of s f v) n ≡ None
+  none : cancel_refusal here n ≡ None
   none =
-      cond-false (is_other_length (state_of s f v)) _ _ (not_from_true _ (eq-eqb _ _ c.own.sized))
-      ∙ cond-false (not (is_out ls n)) _ _ (not_from_true _ is_at.out) ∙ cond-false (not (are_own s v)) _ _ (not_from_true _ c.own.own_shelves)
+      cond-false (is_other_length here) _ _ (not_from_true _ (eq-eqb _ _ c.own.sized))
+      ∙ cond-false (not (is_out ls n)) _ _ (not_from_true _ is_at.out) ∙ cond-false (not (are_own s here.stock)) _ _ (not_from_true _ c.own.own_shelves)
 
-  next : Cancelling s₀ (cancelled (state_of s f v) n)
+  next : Cancelling s₀ (cancelled here n)
   next = record {
-    own = still_own (state_of s f v) n c.own (subst (λ k. InFile k v.marks) (sym c.own.sized) (marks_in_file s orderly v c.own.own_shelves));
+    own = still_own here n c.own (subst (λ k. InFile k here.stock.marks) (sym c.own.sized) (marks_in_file s orderly here.stock c.own.own_shelves));
     rest =
-        counted_cancelled (stock_without v n).marks (less_all (is_number n) ls) (cancelled (state_of s f v) n)
-        ∙ ap (λ (xs : List Loan). all_cancelled xs (cancelled (state_of s f v) n)) left_is
-        ∙ ap (λ k. all_cancelled (drop 1 ls) (cancelled (state_of s f v) k)) first
-        ∙ sym (ap (λ (xs : List Loan). all_cancelled xs (state_of s f v)) all_is) ∙ c.rest;
+        counted_cancelled (stock_without here.stock n).marks (less_all (is_number n) ls) (cancelled here n)
+        ∙ ap (λ (xs : List Loan). all_cancelled xs (cancelled here n)) left_is
+        ∙ ap (λ k. all_cancelled (drop 1 ls) (cancelled here k)) first
+        ∙ sym (ap (λ (xs : List Loan). all_cancelled xs here) all_is) ∙ c.rest;
   }
 
-  pub cancelled_one : (t : Book) (f' : List ℕ) (w : Stock) (r : Result ℕ Refusal) → Called (cancel n) s f v r t f' w
-      → Cancelling s₀ (state_of t f' w) × (length t.outs < length s.outs)
+  pub cancelled_one : (t : Book) (f' : List ℕ) (w : ShelfPair) (r : Result ℕ Refusal) → Called (cancel n) s f v r t f' w
+      → Cancelling s₀ (state_of t f' (stock_of w)) × (length t.outs < length s.outs)
   cancelled_one t f' w (Ok a) called = (
     subst (Cancelling s₀) (sym called.state) next,
     omega (
       arith,
       ap (λ (x : State). length x.book.outs) called.state,
-      length-map (less_all (is_number n) ls) (counted_loan (stock_without v n).marks),
+      length-map (less_all (is_number n) ls) (counted_loan (stock_without here.stock n).marks),
       ap length left_is,
       length-drop 1 ls,
       some,

@@ -3,6 +3,7 @@ use Rattle.std.specs.Prelude.{◌≡◌, ℕ, List, Some, None, Ok, Err, Result}
 use Rattle.refusal.specs.declared.Refusal.{Refusal}
 use Rattle.loans.specs.declared.job.Job.{Job}
 use Rattle.loans.specs.declared.shelves.Shelves.{Shelves}
+use Rattle.loans.specs.Stocks.{stock_of}
 use Rattle.loans.specs.Strokes.{State, state_of}
 use Rattle.loans.specs.Rules.{Request, call_refusal, carried_out, number_for}
 
@@ -14,8 +15,8 @@ pub record Carried (d : Request) (s : State) (n : ℕ) (t : State) : Type 0 wher
 
 -- a call on a job, its file and its shelves; a refusal changes nothing
 abbrev pub Called : Request → Job → List ℕ → Shelves → Result ℕ Refusal → Job → List ℕ → Shelves → Type 0
-Called d j f v (Ok n) j' f' v' = Carried d (state_of j f v) n (state_of j' f' v')
-Called d j f v (Err e) j' f' v' = (call_refusal (state_of j f v) d ≡ Some e) × (j' ≡ j) × (f' ≡ f) × (v' ≡ v)
+Called d j f v (Ok n) j' f' v' = Carried d (state_of j f (stock_of v)) n (state_of j' f' (stock_of v'))
+Called d j f v (Err e) j' f' v' = (call_refusal (state_of j f (stock_of v)) d ≡ Some e) × (j' ≡ j) × (f' ≡ f) × (v' ≡ v)
 
 -- a call that asks nothing of the file, and leaves any file alone
 abbrev pub CalledOnAny : Request → Job → Shelves → Result ℕ Refusal → Job → Shelves → Type 0

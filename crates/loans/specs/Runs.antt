@@ -13,7 +13,7 @@ use Rattle.loans.specs.declared.shelves.Shelves.{Shelves}
 use Rattle.loans.specs.declared.run_fault.RunFault.{RunFault}
 use Rattle.loans.specs.declared.run_fault.RunFault.TheVariants.{Refused, NoRoom}
 use Rattle.loans.specs.Books.{fresh_book}
-use Rattle.loans.specs.Stocks.{Stock, SameRoom, are_own}
+use Rattle.loans.specs.Stocks.{Stock, stock_of, SameRoom, are_own}
 use Rattle.loans.specs.Strokes.{State, state_of}
 use Rattle.loans.specs.Rules.{Request, answers_to, after_all}
 use Rattle.loans.specs.Journals.{journal_of}
@@ -76,11 +76,11 @@ pub record RanSo (o : Ordered) (d : Docket) (t : State) (all : List (Result ℕ 
   pub given : List (Result ℕ Refusal)
   pub answers : all ≡ o.old ++ given
   pub each : length given ≡ length o.calls
-  pub by_rules : given ≡ answers_to (opened_state layout o.number o.file o.shelves) o.calls
-  pub state : t ≡ after_all (opened_state layout o.number o.file o.shelves) o.calls
-  pub same_room : SameRoom o.shelves t.stock
-  pub law : o.shelves.marks ≡ [] → o.shelves.bytes ≡ []
-      → Law layout o.number o.shelves.most_marks o.shelves.most_bytes o.file (journal_of o.calls given) t
+  pub by_rules : given ≡ answers_to (opened_state layout o.number o.file (stock_of o.shelves)) o.calls
+  pub state : t ≡ after_all (opened_state layout o.number o.file (stock_of o.shelves)) o.calls
+  pub same_room : SameRoom (stock_of o.shelves) t.stock
+  pub law : o.shelves.marks.items ≡ [] → o.shelves.bytes.items ≡ []
+      → Law layout o.number o.shelves.marks.most o.shelves.bytes.most o.file (journal_of o.calls given) t
 
 -- a fault as text
 abbrev pub fault_text : RunFault → List ℕ
@@ -94,7 +94,7 @@ Untouched o j j' f' v' new = (j' ≡ j) × (f' ≡ o.file) × (v' ≡ o.shelves)
 -- a run that was made; or nothing changed, where the file is refused, whatever room there is, or where the file opens and the Vec cannot
 -- hold one answer a call behind what stands in it
 abbrev pub Ran : Ordered → Job → Result Docket RunFault → Job → List ℕ → Shelves → List (Result ℕ Refusal) → Type 0
-Ran o j (Ok d) j' f' v' new = RanSo o d (state_of j' f' v') new
+Ran o j (Ok d) j' f' v' new = RanSo o d (state_of j' f' (stock_of v')) new
 Ran o j (Err (Refused e)) j' f' v' new = FileOpened o (Err e) × Untouched o j j' f' v' new
 Ran o j (Err NoRoom) j' f' v' new =
     ((y : Layout) × FileOpened o (Ok y)) × (o.room < length o.old + length o.calls) × Untouched o j j' f' v' new

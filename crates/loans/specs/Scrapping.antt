@@ -7,7 +7,7 @@ use Rattle.loans.specs.declared.job.Job.{Job}
 use Rattle.loans.specs.declared.report.Report.{Report}
 use Rattle.loans.specs.declared.shelves.Shelves.{Shelves}
 use Rattle.loans.specs.Books.{IsEmpty, report_of}
-use Rattle.loans.specs.Stocks.{are_own}
+use Rattle.loans.specs.Stocks.{stock_of, are_own}
 use Rattle.loans.specs.Strokes.{State, state_of}
 use Rattle.loans.specs.LoanEnds.{scrap_refusal, all_cancelled}
 
@@ -26,5 +26,5 @@ pub record ScrappedSo (d : Docket) (s : State) (report : Report) (t : State) : T
 
 -- a refusal takes only the docket
 abbrev pub Scrapped : Docket → Job → List ℕ → Shelves → Result Report Refusal → Job → List ℕ → Shelves → Type 0
-Scrapped d j f v (Ok report) j' f' v' = ScrappedSo d (state_of j f v) report (state_of j' f' v')
-Scrapped d j f v (Err e) j' f' v' = (scrap_refusal (state_of j f v) (docket_number d) ≡ Some e) × (j' ≡ j) × (f' ≡ f) × (v' ≡ v)
+Scrapped d j f v (Ok report) j' f' v' = ScrappedSo d (state_of j f (stock_of v)) report (state_of j' f' (stock_of v'))
+Scrapped d j f v (Err e) j' f' v' = (scrap_refusal (state_of j f (stock_of v)) (docket_number d) ≡ Some e) × (j' ≡ j) × (f' ≡ f) × (v' ≡ v)

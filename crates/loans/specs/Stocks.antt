@@ -26,6 +26,15 @@ stock_on marks' bytes' =
       most_bytes = bytes'.most;
     }
 
+-- a job's two shelves, with what else stands in their memory
+pub record ShelfPair : Type 0 where
+  pub marks : Held Mark
+  pub bytes : Held ℕ
+
+-- what stands on them, and how much they can hold
+abbrev pub stock_of : ShelfPair → Stock
+stock_of v = stock_on v.marks v.bytes
+
 -- two shelves that hold nothing, and can hold so many marks and bytes
 abbrev pub empty_stock : ℕ → ℕ → Stock
 empty_stock most_marks' most_bytes' =

@@ -2,7 +2,7 @@
 ghost use Rattle.std.specs.Prelude.{◌≡◌, ◌<◌, length};
 ghost use Rattle.loans.specs.Ledgers.{Balanced};
 ghost use Rattle.loans.specs.steps.Writing.{kept_by, cancelled_by, ledger_ended, book_ended};
-ghost use Rattle.loans.specs.Stocks.{lengths, OwnWhere};
+ghost use Rattle.loans.specs.Stocks.{lengths, OwnWhere, stock_of};
 ghost use Rattle.loans.specs.LoanEnds.{restored, InFile};
 ghost use Rattle.loans.specs.Rules.Request.{keep, cancel};
 ghost use Rattle.loans.specs.Calls.{Called, CalledOnAny};
@@ -56,7 +56,7 @@ impl Job {
     // Writes down how the loan at a position ended, and the counts of the shelves. Answers how many loans are still out.
     fn end_loan(&mut self, position: usize, outcome: Outcome, shelves: &Shelves<'_>) -> u32
         requires { position < length self.old.outs }
-        ensures book { self.new ≡ book_ended self.old position outcome shelves.now }
+        ensures book { self.new ≡ book_ended self.old position outcome (stock_of shelves.now) }
         ensures left { result ≡ length self.new.outs }
     {
         let marks = shelves.marks().count();
@@ -72,7 +72,7 @@ impl Job {
         loan: u32,
         known: bool,
     ) -> Result<u32, Refusal>
-        requires { OwnWhere known self.old shelves.old }
+        requires { OwnWhere known self.old (stock_of shelves.old) }
         ensures rule { CalledOnAny (keep loan) self.old shelves.old result self.new shelves.new }
         ensures handed { HandedWhere loan result self.new }
     {
@@ -92,7 +92,7 @@ impl Job {
         loan: u32,
         known: bool,
     ) -> Result<u32, Refusal>
-        requires { OwnWhere known self.old shelves.old }
+        requires { OwnWhere known self.old (stock_of shelves.old) }
         ensures rule { Called (cancel loan) self.old file.old shelves.old
             result self.new file.new shelves.new }
         ensures handed { HandedWhere loan result self.new }

@@ -6,7 +6,7 @@ ghost use Rattle.loans.specs.Rules.Request.{paint};
 ghost use Rattle.loans.specs.Calls.{Called};
 ghost use Rattle.loans.specs.steps.Writing.{book_counted};
 ghost use Rattle.loans.specs.Books.{Orderly};
-ghost use Rattle.loans.specs.Stocks.{Fits, OwnWhere};
+ghost use Rattle.loans.specs.Stocks.{Fits, OwnWhere, stock_of};
 ghost use Rattle.loans.specs.steps.Finding.{Found};
 ghost use Rattle.loans.specs.Strokes.{state_of, stock_with, painting_of, is_outside_row, lacks_space};
 ghost use Rattle.loans.specs.steps.Holding.{Held, PaintTested};
@@ -50,16 +50,16 @@ fn is_outside_row(area: Area, painting: Painting<'_>) -> bool
 impl Shelves<'_> {
     // The marks' shelf is full, or there is too little space for so many kept bytes.
     fn lack_space(&self, length: usize) -> bool
-        ensures value { result ≡ lacks_space self.now length }
-        ensures fits { Fits self.now }
+        ensures value { result ≡ lacks_space (stock_of self.now) length }
+        ensures fits { Fits (stock_of self.now) }
     {
         self.marks.space_left() == 0 || self.bytes.space_left() < length
     }
 
     // Shelves a mark and the bytes that its stroke is to cover.
     fn shelve(&mut self, mark: Mark, covered: &[u8])
-        requires { lacks_space self.old (length covered.now) ≡ false }
-        ensures { self.new ≡ stock_with self.old mark covered.now }
+        requires { lacks_space (stock_of self.old) (length covered.now) ≡ false }
+        ensures { stock_of self.new ≡ stock_with (stock_of self.old) mark covered.now }
     {
         // neither refuses: there is space for both
         let _ = self.marks.put(mark);
@@ -112,8 +112,8 @@ impl Job {
         borrower: u32,
         known: bool,
     ) -> Result<usize, Refusal>
-        requires { OwnWhere known self.now shelves.now }
-        ensures { Held (state_of self.now file.now shelves.now) loan borrower result }
+        requires { OwnWhere known self.now (stock_of shelves.now) }
+        ensures { Held (state_of self.now file.now (stock_of shelves.now)) loan borrower result }
     {
         if !self.has_length(file) {
             return Err(Refusal::OtherLength);
@@ -136,8 +136,8 @@ impl Job {
         painting: Painting<'_>,
         known: bool,
     ) -> Result<Target, Refusal>
-        requires { OwnWhere known self.now shelves.now }
-        ensures { PaintTested (state_of self.now file.now shelves.now)
+        requires { OwnWhere known self.now (stock_of shelves.now) }
+        ensures { PaintTested (state_of self.now file.now (stock_of shelves.now))
             (painting_of painting.entry) result }
     {
         let position = self.held(file, shelves, painting.loan, painting.borrower, known)?;
@@ -159,7 +159,7 @@ impl Job {
     // Writes down so many strokes of the loan at a position, and the counts of the shelves.
     pub(crate) fn count_strokes(&mut self, position: usize, strokes: u32, shelves: &Shelves<'_>)
         requires { position < length self.old.outs }
-        ensures book { self.new ≡ book_counted self.old position strokes shelves.now }
+        ensures book { self.new ≡ book_counted self.old position strokes (stock_of shelves.now) }
         ensures rising { NumbersRise self.old.outs }
     {
         let ledger = &mut self.ledger;
@@ -176,7 +176,7 @@ impl Job {
         painting: Painting<'_>,
         known: bool,
     ) -> Result<u32, Refusal>
-        requires { OwnWhere known self.old shelves.old }
+        requires { OwnWhere known self.old (stock_of shelves.old) }
         ensures { Called (paint (painting_of painting.entry)) self.old file.old shelves.old
             result self.new file.new shelves.new }
     {

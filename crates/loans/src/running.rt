@@ -1,6 +1,6 @@
 // Running a list of calls on a newly opened job.
 ghost use Rattle.std.specs.Prelude.{◌≡◌, Some, ◌+◌, ◌≤◌, IfOk, map, length, vec_len, vec_capacity};
-ghost use Rattle.loans.specs.Stocks.{SameRoom, answer_limit, OwnWhere};
+ghost use Rattle.loans.specs.Stocks.{SameRoom, answer_limit, OwnWhere, stock_of};
 ghost use Rattle.loans.specs.Strokes.{state_of};
 ghost use Rattle.loans.specs.Rules.{request_of};
 ghost use Rattle.loans.specs.Calls.{Called};
@@ -26,7 +26,7 @@ impl Job {
         call: Call<'_>,
         known: bool,
     ) -> Result<u32, Refusal>
-        requires { OwnWhere known self.old shelves.old }
+        requires { OwnWhere known self.old (stock_of shelves.old) }
         ensures rule { Called (request_of call.entry) self.old file.old shelves.old
             result self.new file.new shelves.new }
         ensures handed { HandedBy (request_of call.entry) result self.new }
@@ -52,8 +52,8 @@ impl Job {
         ensures rule { Called (request_of call.entry) self.old file.old shelves.old
             result self.new file.new shelves.new }
         ensures handed { HandedBy (request_of call.entry) result self.new }
-        ensures room { SameRoom shelves.old shelves.new }
-        ensures limit { IfOk result (λ number. number ≤ answer_limit shelves.old) }
+        ensures room { SameRoom (stock_of shelves.old) (stock_of shelves.new) }
+        ensures limit { IfOk result (λ number. number ≤ answer_limit (stock_of shelves.old)) }
     {
         let answer = self.call(file, shelves, call, false);
         // what holds of every job and of all shelves bounds the number
@@ -72,11 +72,11 @@ impl Job {
         answers: &mut Vec<Answer>,
     )
         requires room { vec_len answers.old + length calls.now ≤ vec_capacity answers.old }
-        requires along { OwnAlong known (state_of self.old file.old shelves.old)
+        requires along { OwnAlong known (state_of self.old file.old (stock_of shelves.old))
             (map request_of calls.now) }
         ensures { AllDone (map request_of calls.now)
-            (state_of self.old file.old shelves.old) answers.old.items
-            (state_of self.new file.new shelves.new) answers.new.items }
+            (state_of self.old file.old (stock_of shelves.old)) answers.old.items
+            (state_of self.new file.new (stock_of shelves.new)) answers.new.items }
     {
         for call in calls {
             answers.push_reserved(self.call(file, shelves, *call, known));
@@ -87,7 +87,7 @@ impl Job {
 impl Shelves<'_> {
     // Neither shelf holds anything.
     fn are_empty(&self) -> bool
-        ensures { result ≡ is_empty self.now }
+        ensures { result ≡ is_empty (stock_of self.now) }
     {
         self.marks.count() == 0 && self.bytes.count() == 0
     }

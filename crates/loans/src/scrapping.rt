@@ -1,6 +1,7 @@
 // Scrapping a job.
 ghost use Rattle.std.specs.Prelude.{◌≡◌, IfOk};
 ghost use Rattle.loans.specs.Books.{IsBalanced};
+ghost use Rattle.loans.specs.Stocks.{stock_of};
 ghost use Rattle.loans.specs.Strokes.{state_of};
 ghost use Rattle.loans.specs.LoanEnds.{all_cancelled};
 ghost use Rattle.loans.specs.Scrapping.{WithOwn, Scrapped};
@@ -14,9 +15,9 @@ use refusal::Refusal;
 impl Job {
     // Cancels every loan out, in the order in which they were granted.
     fn cancel_all(&mut self, file: &mut [u8], shelves: &mut Shelves<'_>)
-        requires { WithOwn (state_of self.old file.old shelves.old) }
-        ensures { state_of self.new file.new shelves.new
-            ≡ all_cancelled self.old.outs (state_of self.old file.old shelves.old) }
+        requires { WithOwn (state_of self.old file.old (stock_of shelves.old)) }
+        ensures { state_of self.new file.new (stock_of shelves.new)
+            ≡ all_cancelled self.old.outs (state_of self.old file.old (stock_of shelves.old)) }
     {
         while let [first, ..] = self.outs() {
             let number = first.number;

@@ -1,6 +1,6 @@
 // A job's two shelves.
 ghost use Rattle.std.specs.Prelude.{◌≡◌};
-ghost use Rattle.loans.specs.Stocks.{Fits, stock_on};
+ghost use Rattle.loans.specs.Stocks.{Fits, stock_of};
 
 use crate::mark::Mark;
 use shelf::Shelf;
@@ -16,11 +16,11 @@ pub struct Shelves<'a> {
 }
 
 impl<'a> Model for Shelves<'a> {
-    ghost use Rattle.loans.specs.Stocks.{Stock, Fits, stock_on};
+    ghost use Rattle.loans.specs.Stocks.{ShelfPair, Fits, stock_on};
 
-    ghost Value = { Stock };
+    ghost Value = { ShelfPair };
 
-    ghost view = { λ s. stock_on s.marks s.bytes };
+    ghost view = { λ s. record { marks = s.marks; bytes = s.bytes } };
 
     ghost invariant = { λ s. Fits (stock_on s.marks s.bytes) };
 }
@@ -28,7 +28,8 @@ impl<'a> Model for Shelves<'a> {
 impl<'a> Shelves<'a> {
     /// The two shelves as they are. A job can be given any: a call that needs its own refuses others with ForeignShelves.
     pub fn of(marks: Shelf<'a, Mark>, bytes: Shelf<'a, u8>) -> Shelves<'a>
-        ensures { result ≡ stock_on marks.entry bytes.entry }
+        ensures marks { result.marks ≡ marks.entry }
+        ensures bytes { result.bytes ≡ bytes.entry }
     {
         // each call on a shelf tells that it holds no more than it can
         let _ = (marks.count(), bytes.count());
@@ -37,18 +38,16 @@ impl<'a> Shelves<'a> {
 
     /// The shelf of marks.
     pub fn marks(&self) -> &Shelf<'a, Mark>
-        ensures held { result.now.items ≡ self.now.marks }
-        ensures most { result.now.most ≡ self.now.most_marks }
-        ensures fits { Fits self.now }
+        ensures value { result.now ≡ self.now.marks }
+        ensures fits { Fits (stock_of self.now) }
     {
         &self.marks
     }
 
     /// The shelf of kept bytes.
     pub fn bytes(&self) -> &Shelf<'a, u8>
-        ensures held { result.now.items ≡ self.now.bytes }
-        ensures most { result.now.most ≡ self.now.most_bytes }
-        ensures fits { Fits self.now }
+        ensures value { result.now ≡ self.now.bytes }
+        ensures fits { Fits (stock_of self.now) }
     {
         &self.bytes
     }

@@ -1,6 +1,6 @@
 // Closing the gaps that a loan's strokes leave on the shelves.
 ghost use Rattle.std.specs.Prelude.{◌≡◌, ◌+◌, ◌^◌, ◌<◌, ◌≤◌, length, drop};
-ghost use Rattle.loans.specs.Stocks.{Fits, lengths};
+ghost use Rattle.loans.specs.Stocks.{Fits, lengths, stock_of};
 ghost use Rattle.loans.specs.LoanEnds.{stock_without};
 ghost use Rattle.loans.specs.steps.Sifting.{Leads, CanSlide, stock_slid};
 
@@ -47,17 +47,17 @@ fn before_first(marks: &[Mark], loan: u32) -> Amount
 impl Shelves<'_> {
     // The marks behind so many.
     fn marks_behind(&self, passed: usize) -> &[Mark]
-        requires { passed ≤ length self.now.marks }
-        ensures marks { result.now ≡ drop passed self.now.marks }
-        ensures fits { Fits self.now }
+        requires { passed ≤ length self.now.marks.items }
+        ensures marks { result.now ≡ drop passed self.now.marks.items }
+        ensures fits { Fits (stock_of self.now) }
     {
         &self.marks.elements()[passed..]
     }
 
     // Moves a run of strokes that stands behind so much down to behind what stays.
     fn slide_strokes(&mut self, behind: Amount, run: Amount, stays: Amount)
-        requires { CanSlide self.old behind run stays }
-        ensures { self.new ≡ stock_slid self.old behind run stays }
+        requires { CanSlide (stock_of self.old) behind run stays }
+        ensures { stock_of self.new ≡ stock_slid (stock_of self.old) behind run stays }
     {
         // neither refuses: the run stands on the shelves, and goes down
         let _ = self.marks.slide(behind.marks, run.marks, stays.marks);
@@ -67,8 +67,8 @@ impl Shelves<'_> {
     // Takes all marks of a loan and their bytes off the shelves, in one pass that moves what stays at most once: each run of other
     // loans' strokes at one go.
     pub(crate) fn drop_loan(&mut self, loan: u32)
-        requires { lengths self.old.marks ≡ length self.old.bytes }
-        ensures { self.new ≡ stock_without self.old loan }
+        requires { lengths self.old.marks.items ≡ length self.old.bytes.items }
+        ensures { stock_of self.new ≡ stock_without (stock_of self.old) loan }
     {
         let mut stays = Amount { marks: 0, bytes: 0 };
         let mut passed = Amount { marks: 0, bytes: 0 };

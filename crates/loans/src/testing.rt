@@ -1,6 +1,6 @@
 // Whether shelves are the job's.
 ghost use Rattle.std.specs.Prelude.{◌≡◌, ◌≤◌, length};
-ghost use Rattle.loans.specs.Stocks.{are_own, lies_in, OwnWhere};
+ghost use Rattle.loans.specs.Stocks.{are_own, lies_in, OwnWhere, stock_of};
 ghost use Rattle.loans.specs.Ledgers.{NumbersRise};
 ghost use Rattle.loans.specs.steps.Tallies.{SoundAt, Tallied, agree};
 
@@ -60,7 +60,7 @@ fn counts_agree(loans: &[Loan], counts: &[u32]) -> bool
 impl Job {
     // The shelves are the job's.
     pub(crate) fn owns(&self, shelves: &Shelves<'_>) -> bool
-        ensures { result ≡ are_own self.now shelves.now }
+        ensures { result ≡ are_own self.now (stock_of shelves.now) }
     {
         let marks = shelves.marks().elements();
         let covered = shelves.bytes().count();
@@ -77,8 +77,8 @@ impl Job {
     // The same, without a pass over the marks where it is known. What is known stands in a `requires` of each function: a type of job,
     // file and shelves would owe it again after each call, where only the law over whole runs shows it, and a keep has no file.
     pub(crate) fn owns_or_knows(&self, shelves: &Shelves<'_>, known: bool) -> bool
-        requires { OwnWhere known self.now shelves.now }
-        ensures { result ≡ are_own self.now shelves.now }
+        requires { OwnWhere known self.now (stock_of shelves.now) }
+        ensures { result ≡ are_own self.now (stock_of shelves.now) }
     {
         known || self.owns(shelves)
     }

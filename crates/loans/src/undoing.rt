@@ -1,6 +1,6 @@
 // Taking a stroke back.
 ghost use Rattle.std.specs.Prelude.{◌≡◌, ◌≤◌, length};
-ghost use Rattle.loans.specs.Stocks.{lengths, OwnWhere};
+ghost use Rattle.loans.specs.Stocks.{lengths, OwnWhere, stock_of};
 ghost use Rattle.loans.specs.Strokes.{state_of};
 ghost use Rattle.loans.specs.steps.Taking.{FoundNewest, file_less, stock_less, Whole, UndoTested};
 ghost use Rattle.loans.specs.Rules.Request.{undo};
@@ -38,11 +38,11 @@ fn newest_of(marks: &[Mark], covered: usize, loan: u32) -> Option<Newest>
 impl Shelves<'_> {
     // Puts back what the stroke of the mark at a position covered, and takes mark and bytes off the shelves.
     fn take_back(&mut self, file: &mut [u8], newest: Newest)
-        requires { Whole file.old self.old newest.position newest.begin }
+        requires { Whole file.old (stock_of self.old) newest.position newest.begin }
         ensures file { file.new
-            ≡ file_less file.old self.old newest.position newest.begin }
-        ensures shelves { self.new
-            ≡ stock_less self.old newest.position newest.begin }
+            ≡ file_less file.old (stock_of self.old) newest.position newest.begin }
+        ensures shelves { stock_of self.new
+            ≡ stock_less (stock_of self.old) newest.position newest.begin }
     {
         let Newest { position, begin } = newest;
         let mark = self.marks.elements()[position];
@@ -64,8 +64,8 @@ impl Job {
         borrower: u32,
         known: bool,
     ) -> Result<Last, Refusal>
-        requires { OwnWhere known self.now shelves.now }
-        ensures { UndoTested (state_of self.now file.now shelves.now) loan borrower result }
+        requires { OwnWhere known self.now (stock_of shelves.now) }
+        ensures { UndoTested (state_of self.now file.now (stock_of shelves.now)) loan borrower result }
     {
         let position = self.held(file, shelves, loan, borrower, known)?;
         let marks = shelves.marks().elements();
@@ -82,7 +82,7 @@ impl Job {
         borrower: u32,
         known: bool,
     ) -> Result<u32, Refusal>
-        requires { OwnWhere known self.old shelves.old }
+        requires { OwnWhere known self.old (stock_of shelves.old) }
         ensures { Called (undo loan borrower) self.old file.old shelves.old
             result self.new file.new shelves.new }
     {

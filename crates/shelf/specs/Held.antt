@@ -1,12 +1,17 @@
--- What a shelf holds and how much it can hold.
-use Rattle.std.specs.Prelude.{ℕ, ◌≤◌, List, length}
+-- What a shelf holds and how much it can hold, and what else stands in the memory lent to it.
+use Rattle.std.specs.Prelude.{◌≡◌, ℕ, ◌+◌, ◌≤◌, min, List, length}
 
--- its elements, in order, and how many it can hold
+-- its elements, in order; how many it can hold; and what stands past them in its memory, which is nobody's
 pub record Held (X : Type 0) : Type 0 where
   pub items : List X
   pub most : ℕ
+  pub spare : List X
 
--- it holds no more than it can, and can hold no more than 1,073,741,824
+-- how many elements its memory has
+abbrev pub memory_of : {X : Type 0} → Held X → ℕ
+memory_of s = length s.items + length s.spare
+
+-- it holds no more than it can: as much as its memory, and at most 1,073,741,824
 pub record IsBounded {X : Type 0} (s : Held X) : Type 0 where
   pub count : length s.items ≤ s.most
-  pub capped : s.most ≤ 1073741824
+  pub most : s.most ≡ min (memory_of s) 1073741824

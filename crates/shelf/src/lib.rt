@@ -4,7 +4,7 @@
 ghost use Rattle.std.specs.Prelude.{◌≡◌, ◌↔◌, ℕ, ◌+◌, ◌-◌, ◌<◌, ◌≤◌, min, [], ◌∷◌, ◌++◌, length, take, drop, nat_le, slice_get, slice_set, Some, IsOk, IfOk, OnOk, IfErr, OnErr};
 ghost use Rattle.std.proofs.Math.Seq.{paste};
 ghost use Rattle.refusal.specs.declared.Refusal.TheVariants.{ShelfFull, PastCount};
-ghost use Rattle.shelf.specs.Held.{IsBounded};
+ghost use Rattle.shelf.specs.Held.{IsBounded, memory_of};
 ghost use Rattle.shelf.specs.Runs.{without_run, slid_down};
 
 use refusal::Refusal;
@@ -27,7 +27,7 @@ pub struct Shelf<'a, T> {
 
 // The elements are the front of the memory, as far as the count goes; what stands past them is nobody's.
 impl<'a, T> Model for Shelf<'a, T> {
-    ghost use Rattle.std.specs.Prelude.{◌≤◌, length, take, min};
+    ghost use Rattle.std.specs.Prelude.{◌≤◌, length, take, drop, min};
     ghost use Rattle.shelf.specs.Held.{Held};
 
     ghost Value = { Held T };
@@ -35,6 +35,7 @@ impl<'a, T> Model for Shelf<'a, T> {
     ghost view = { λ s. record {
       items = take s.count s.memory.now;
       most = min (length s.memory.now) 1073741824;
+      spare = drop s.count s.memory.now;
     } };
 
     ghost invariant = { λ s. s.count ≤ min (length s.memory.now) 1073741824 };
@@ -45,6 +46,7 @@ impl<'a, T: Copy> Shelf<'a, T> {
     pub fn new(memory: &'a mut [T]) -> Shelf<'a, T>
         ensures items { result.items ≡ [] }
         ensures most { result.most ≡ min (length memory.old) 1073741824 }
+        ensures spare { result.spare ≡ memory.old }
         ensures bounded { IsBounded result }
     {
         Shelf { memory, count: 0 }
@@ -89,6 +91,7 @@ impl<'a, T: Copy> Shelf<'a, T> {
         ensures refusal { IfErr result (λ e. e ≡ ShelfFull) }
         ensures items { OnOk result (self.new.items ≡ self.old.items ++ element ∷ []) }
         ensures most { self.new.most ≡ self.old.most }
+        ensures memory { memory_of self.new ≡ memory_of self.old }
         ensures bounded { IsBounded self.new }
         ensures unchanged { OnErr result (self.new ≡ self.old) }
     {
@@ -108,6 +111,7 @@ impl<'a, T: Copy> Shelf<'a, T> {
         ensures refusal { IfErr result (λ e. e ≡ ShelfFull) }
         ensures items { OnOk result (self.new.items ≡ self.old.items ++ elements.now) }
         ensures most { self.new.most ≡ self.old.most }
+        ensures memory { memory_of self.new ≡ memory_of self.old }
         ensures bounded { IsBounded self.new }
         ensures unchanged { OnErr result (self.new ≡ self.old) }
     {
@@ -161,6 +165,7 @@ impl<'a, T: Copy> Shelf<'a, T> {
         ensures refusal { IfErr result (λ e. e ≡ PastCount) }
         ensures items { OnOk result (self.new.items ≡ slid_down from count to self.old.items) }
         ensures most { self.new.most ≡ self.old.most }
+        ensures memory { memory_of self.new ≡ memory_of self.old }
         ensures bounded { IsBounded self.new }
         ensures unchanged { OnErr result (self.new ≡ self.old) }
     {
@@ -178,6 +183,7 @@ impl<'a, T: Copy> Shelf<'a, T> {
         ensures refusal { IfErr result (λ e. e ≡ PastCount) }
         ensures items { OnOk result (self.new.items ≡ take count self.old.items) }
         ensures most { self.new.most ≡ self.old.most }
+        ensures memory { memory_of self.new ≡ memory_of self.old }
         ensures bounded { IsBounded self.new }
         ensures unchanged { OnErr result (self.new ≡ self.old) }
     {
@@ -195,6 +201,7 @@ impl<'a, T: Copy> Shelf<'a, T> {
         ensures refusal { IfErr result (λ e. e ≡ PastCount) }
         ensures items { OnOk result (self.new.items ≡ without_run position count self.old.items) }
         ensures most { self.new.most ≡ self.old.most }
+        ensures memory { memory_of self.new ≡ memory_of self.old }
         ensures bounded { IsBounded self.new }
         ensures unchanged { OnErr result (self.new ≡ self.old) }
     {

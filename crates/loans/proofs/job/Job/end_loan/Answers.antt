@@ -1,7 +1,9 @@
 use Rattle.std.proofs.Common.{◌<◌, length, sym, ap, ◌∙◌, subst, arith}
 use Rattle.loans.specs.Ledgers.{InOrder}
 use Rattle.loans.specs.Books.{Book, book_in}
+use Rattle.loans.specs.Stocks.{stock_of}
 use Rattle.loans.specs.steps.Writing.{book_ended}
+use Rattle.loans.proofs.Items.{same_items}
 use Rattle.loans.proofs.Counting.{out_count}
 use Rattle.loans.proofs.Ended.{counts_one, ended_in_order, ended_in}
 use Rattle.loans.proofs.job.Job.end_loan.Goals as goal
@@ -22,7 +24,7 @@ returns-clause-book c =
     let l = c.self.inside.ledger in
     let o = c.self.invariant in
     let out : c.args.position < l.out = omega (arith, c.requires, ap (λ (b : Book). length b.outs) c.self.view_is, out_count l o.balanced) in
-    let marks = c.count-marks.ensures.value ∙ ap length c.marks.ensures.held in
-    let bytes = c.count-bytes.ensures.value ∙ ap length c.bytes.ensures.held in
-    ap (book_in c.self.inside.layout) c.end.ensures ∙ ended_in l o.balanced c.args.position c.args.outcome _ _ out c.self.inside.layout c.args.shelves.now marks bytes
-    ∙ ap (λ (b : Book). book_ended b c.args.position c.args.outcome c.args.shelves.now) c.self.view_is
+    let marks = c.count-marks.ensures.value ∙ ap length (same_items c.marks.ensures.value) in
+    let bytes = c.count-bytes.ensures.value ∙ ap length (same_items c.bytes.ensures.value) in
+    ap (book_in c.self.inside.layout) c.end.ensures ∙ ended_in l o.balanced c.args.position c.args.outcome _ _ out c.self.inside.layout (stock_of c.args.shelves.now) marks bytes
+    ∙ ap (λ (b : Book). book_ended b c.args.position c.args.outcome (stock_of c.args.shelves.now)) c.self.view_is

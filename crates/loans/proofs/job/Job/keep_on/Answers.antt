@@ -1,4 +1,5 @@
 use Rattle.std.proofs.Common.{[], sym, subst}
+use Rattle.loans.specs.Stocks.{stock_of}
 use Rattle.loans.specs.steps.Finding.{Found}
 use Rattle.loans.proofs.EndedBooks.{keep_carried}
 use Rattle.loans.proofs.Handed.{kept_handed}
@@ -17,4 +18,4 @@ returns-clause-rule c f =
 
 pub returns-clause-handed : goal.returns-clause-handed
 returns-clause-handed c =
-    kept_handed c.args.self.now [] c.args.shelves.now c.args.loan c.end_loan.result _ c.position_of.ensures.orderly (returns-clause-rule c [])
+    kept_handed c.args.self.now [] (stock_of c.args.shelves.now) c.args.loan c.end_loan.result _ c.position_of.ensures.orderly (returns-clause-rule c [])

@@ -1,6 +1,6 @@
 use Rattle.std.proofs.Common.{◌≤◌, ap, length, sym, subst, arith, rules}
 use Rattle.std.proofs.lemmas.List.{length-drop}
-use Rattle.loans.specs.Stocks.{Stock}
+use Rattle.loans.specs.Stocks.{ShelfPair, stock_of}
 use Rattle.loans.proofs.Sifted.{Sifted, lengths_from, next_slides, next_gone, run_slides, run_moved, marks_cut, bytes_cut, sifted_all}
 use Rattle.loans.proofs.shelves.Shelves.drop_loan.Goals as goal
 
@@ -51,7 +51,7 @@ loop-passed-preserved c =
 pub returns : goal.returns
 returns c =
     let past = ap length c.marks_behind.ensures.marks in
-    let left = length-drop c.loop-passed.passed.marks c.loop-passed.self.marks in
-    let all : length c.args.self.now.marks ≤ c.loop-passed.passed.marks = omega (arith, past, left, c.in_default.len_below, c.loop-passed.invariant.marks_count) in
-    let s = subst (λ (k : Stock). Sifted c.args.self.now k c.args.loan c.loop-passed.passed c.loop-passed.stays) (sym c.self.view_is) c.loop-passed.invariant in
+    let left = length-drop c.loop-passed.passed.marks c.loop-passed.self.marks.items in
+    let all : length c.args.self.now.marks.items ≤ c.loop-passed.passed.marks = omega (arith, past, left, c.in_default.len_below, c.loop-passed.invariant.marks_count) in
+    let s = subst (λ (v : ShelfPair). Sifted (stock_of c.args.self.now) (stock_of v) c.args.loan c.loop-passed.passed c.loop-passed.stays) (sym c.self.view_is) c.loop-passed.invariant in
     search (rules, marks_cut s all c.requires, bytes_cut s all c.requires, sifted_all s all c.requires)
