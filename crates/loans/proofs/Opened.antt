@@ -10,7 +10,7 @@ use Rattle.dds.specs.Sources.{source_of}
 use Rattle.dds.specs.Headers.{header_read, header_name}
 use Rattle.dds.specs.Layouts.{OpenedAs, OpenedIn, OpenedBy}
 use Rattle.loans.specs.Books.{Book, fresh_book}
-use Rattle.loans.specs.Stocks.{Stock, empty_stock}
+use Rattle.loans.specs.Stocks.{Stock, ShelfPair, stock_of, empty_stock}
 use Rattle.loans.specs.Rules.{Request, after_all}
 use Rattle.loans.specs.Runs.{opened_state}
 use Rattle.loans.specs.Scrapping.{WithOwn}
@@ -32,9 +32,9 @@ length_by_codes x names y h = by_header x names (header_read x) y h
 
 -- ---- with two empty shelves
 
-pub is_empty_stock : (k : Stock) {most_marks most_bytes : ℕ} → k.marks ≡ [] → k.bytes ≡ [] → k.most_marks ≡ most_marks → k.most_bytes ≡ most_bytes
-    → k ≡ empty_stock most_marks most_bytes
-is_empty_stock k a b c d = λ i. record { marks = a i; bytes = b i; most_marks = c i; most_bytes = d i }
+pub is_empty_stock : {v w : ShelfPair} {most_marks most_bytes : ℕ} → v ≡ w → w.marks.items ≡ [] → w.bytes.items ≡ [] → w.marks.most ≡ most_marks
+    → w.bytes.most ≡ most_bytes → stock_of v ≡ empty_stock most_marks most_bytes
+is_empty_stock e a b c d = ap stock_of e ∙ (λ i. record { marks = a i; bytes = b i; most_marks = c i; most_bytes = d i })
 
 pub opened_is : {b : Book} {k m : Stock} (y : Layout) (number : ℕ) (f : List ℕ) → b ≡ fresh_book y (Some number) → k ≡ m
     → record { book = b; file = f; stock = k } ≡ opened_state y number f m

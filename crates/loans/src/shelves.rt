@@ -28,8 +28,7 @@ impl<'a> Model for Shelves<'a> {
 impl<'a> Shelves<'a> {
     /// The two shelves as they are. A job can be given any: a call that needs its own refuses others with ForeignShelves.
     pub fn of(marks: Shelf<'a, Mark>, bytes: Shelf<'a, u8>) -> Shelves<'a>
-        ensures marks { result.marks ≡ marks.entry }
-        ensures bytes { result.bytes ≡ bytes.entry }
+        ensures { result ≡ record { marks = marks.entry; bytes = bytes.entry } }
     {
         // each call on a shelf tells that it holds no more than it can
         let _ = (marks.count(), bytes.count());

@@ -1,6 +1,6 @@
 // A day's orders, from the texture and their text to the answers and how the day ends.
 ghost use Rattle.std.specs.Prelude.{◌≡◌, ◌+◌, ◌*◌, ◌<◌, ◌≤◌, ◌++◌, ◌↔◌, Some, IsErr, OnErr, IfOk, length, vec_len, vec_capacity};
-ghost use Rattle.loans.specs.Stocks.{SameRoom, answer_limit};
+ghost use Rattle.loans.specs.Stocks.{SameRoom, answer_limit, stock_of};
 ghost use Rattle.loans.specs.Dockets.{docket_number};
 ghost use Rattle.loans.specs.Strokes.{state_of};
 ghost use Rattle.loans.specs.Scrapping.{WithOwn};
@@ -64,10 +64,10 @@ fn print(printed: &mut Vec<u8>, reply: Reply)
 // Carries out what a line orders.
 fn answer(job: &mut Job, file: &mut [u8], shelves: &mut Shelves<'_>, line: &[u8]) -> Answer
     requires short { length line.now ≤ 16384 }
-    ensures answered { LineAnswered line.now (state_of job.old file.old shelves.old) result
-        (state_of job.new file.new shelves.new) }
-    ensures room { SameRoom shelves.old shelves.new }
-    ensures limit { IfOk result (λ number. number ≤ answer_limit shelves.old) }
+    ensures answered { LineAnswered line.now (state_of job.old file.old (stock_of shelves.old)) result
+        (state_of job.new file.new (stock_of shelves.new)) }
+    ensures room { SameRoom (stock_of shelves.old) (stock_of shelves.new) }
+    ensures limit { IfOk result (λ number. number ≤ answer_limit (stock_of shelves.old)) }
 {
     Order::parse(line)?.carry_out(job, file, shelves)
 }
@@ -81,11 +81,11 @@ fn answer_all(
     printed: &mut Vec<u8>,
 )
     requires short { length orders.now ≤ 16384 }
-    requires limit { answer_limit shelves.old ≡ 65535 }
+    requires limit { answer_limit (stock_of shelves.old) ≡ 65535 }
     requires room { vec_len printed.old + 6 * length orders.now ≤ vec_capacity printed.old }
     ensures answered { LinesAnswered (lines_of orders.now)
-        (state_of job.old file.old shelves.old) printed.old.items
-        (state_of job.new file.new shelves.new) printed.new.items }
+        (state_of job.old file.old (stock_of shelves.old)) printed.old.items
+        (state_of job.new file.new (stock_of shelves.new)) printed.new.items }
     ensures length { vec_len printed.new ≤ vec_len printed.old + 6 * length orders.now }
     ensures capacity { vec_capacity printed.new ≡ vec_capacity printed.old }
 {
@@ -98,8 +98,8 @@ fn answer_all(
 // Ships, or scraps where a loan is out.
 fn close(docket: Docket, job: &mut Job, file: &mut [u8], shelves: &mut Shelves<'_>) -> Ending
     requires number { job.old.number ≡ Some (docket_number docket) }
-    requires own { WithOwn (state_of job.old file.old shelves.old) }
-    ensures { Closed (state_of job.old file.old shelves.old) result file.new }
+    requires own { WithOwn (state_of job.old file.old (stock_of shelves.old)) }
+    ensures { Closed (state_of job.old file.old (stock_of shelves.old)) result file.new }
 {
     if let Err(Unspent { docket, refusal: _ }) = ship(docket, job) {
         // cannot refuse: docket, file and shelves are the job's
@@ -122,7 +122,7 @@ fn day_on(
     requires room { vec_len printed.old + 6 * length orders.now ≤ vec_capacity printed.old }
     requires begun { Begun
         (record { master = master.old; orders = orders.now; before = printed.old.items })
-        (docket_number docket) (state_of job.old master.old shelves.old) }
+        (docket_number docket) (state_of job.old master.old (stock_of shelves.old)) }
     ensures ended { EndedAs
         (record { master = master.old; orders = orders.now; before = printed.old.items })
         result master.new printed.new.items }

@@ -7,7 +7,7 @@ ghost use Rattle.orders.specs.Orders.{instruction_of};
 ghost use Rattle.orders.specs.Words.{now_of};
 ghost use Rattle.orders.specs.Orders.{Parsed, EachLineIsOneOrder, HasShortDigits, request_for};
 ghost use Rattle.loans.specs.Calls.{Called};
-ghost use Rattle.loans.specs.Stocks.{SameRoom, answer_limit};
+ghost use Rattle.loans.specs.Stocks.{SameRoom, answer_limit, stock_of};
 
 use crate::digits::Digits;
 use crate::number::value;
@@ -178,8 +178,8 @@ impl<'a> Order<'a> {
         requires { HasShortDigits self }
         ensures rule { Called (request_for (instruction_of self.entry))
             job.old file.old shelves.old result job.new file.new shelves.new }
-        ensures room { SameRoom shelves.old shelves.new }
-        ensures limit { IfOk result (λ number. number ≤ answer_limit shelves.old) }
+        ensures room { SameRoom (stock_of shelves.old) (stock_of shelves.new) }
+        ensures limit { IfOk result (λ number. number ≤ answer_limit (stock_of shelves.old)) }
     {
         let call = match self {
             Order::Loan { piece, borrower } => Call::Loan { piece, borrower },

@@ -1,4 +1,5 @@
 use Rattle.std.proofs.Common.{◌+◌, ◌++◌, length, vec_len, ap, ◌∙◌, arith}
+use Rattle.loans.specs.Stocks.{stock_of}
 use Rattle.loans.specs.Strokes.{state_of}
 use Rattle.orders.specs.Lines.{lines_left}
 use Rattle.orders.specs.Replies.{reply_text}
@@ -7,7 +8,7 @@ use Rattle.orders.proofs.day.answer_all.Goals as goal
 
 pub loop-line-init : goal.loop-line-init
 loop-line-init c =
-    working_first c.args.orders.now (state_of c.args.job.now c.args.file.now c.args.shelves.now) _ _ _ _ c.requires.short (ap lines_left c.into_iter-line-iterator.ensures.into_iter_gives ∙ c.of-line-items.ensures)
+    working_first c.args.orders.now (state_of c.args.job.now c.args.file.now (stock_of c.args.shelves.now)) _ _ _ _ c.requires.short (ap lines_left c.into_iter-line-iterator.ensures.into_iter_gives ∙ c.of-line-items.ensures)
 
 pub print-requires : goal.print-requires
 print-requires c =
