@@ -65,7 +65,8 @@ impl Job {
         known: bool,
     ) -> Result<Last, Refusal>
         requires { OwnWhere known self.now (stock_of shelves.now) }
-        ensures { UndoTested (state_of self.now file.now (stock_of shelves.now)) loan borrower result }
+        ensures { UndoTested (state_of self.now file.now (stock_of shelves.now))
+            loan borrower result }
     {
         let position = self.held(file, shelves, loan, borrower, known)?;
         let marks = shelves.marks().elements();

@@ -64,7 +64,8 @@ fn print(printed: &mut Vec<u8>, reply: Reply)
 // Carries out what a line orders.
 fn answer(job: &mut Job, file: &mut [u8], shelves: &mut Shelves<'_>, line: &[u8]) -> Answer
     requires short { length line.now ≤ 16384 }
-    ensures answered { LineAnswered line.now (state_of job.old file.old (stock_of shelves.old)) result
+    ensures answered { LineAnswered line.now
+        (state_of job.old file.old (stock_of shelves.old)) result
         (state_of job.new file.new (stock_of shelves.new)) }
     ensures room { SameRoom (stock_of shelves.old) (stock_of shelves.new) }
     ensures limit { IfOk result (λ number. number ≤ answer_limit (stock_of shelves.old)) }

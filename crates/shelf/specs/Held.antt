@@ -1,7 +1,7 @@
 -- What a shelf holds and how much it can hold, and what else stands in the memory lent to it.
 use Rattle.std.specs.Prelude.{◌≡◌, ℕ, ◌+◌, ◌≤◌, min, List, length}
 
--- its elements, in order; how many it can hold; and what stands past them in its memory, which is nobody's
+-- its elements, in order; how many it can hold; and what stands past them in the memory, which is no element
 pub record Held (X : Type 0) : Type 0 where
   pub items : List X
   pub most : ℕ

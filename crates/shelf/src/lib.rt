@@ -17,7 +17,8 @@ mod tests;
 const MOST: usize = 1_073_741_824;
 
 /// A list of elements in lent memory, and the most elements that it can hold: as many as the memory holds, and at most
-/// 1,073,741,824. Each call tells that the shelf holds no more (`IsBounded`).
+/// 1,073,741,824. Each call tells that the shelf holds no more (`IsBounded`). A call that refuses leaves the memory behind the
+/// elements as it was, too; one that is carried out may leave anything there.
 #[derive(Drop)]
 pub struct Shelf<'a, T> {
     // lent, with a count beside it: a Vec would own its memory
@@ -25,7 +26,7 @@ pub struct Shelf<'a, T> {
     count: usize,
 }
 
-// The elements are the front of the memory, as far as the count goes; what stands past them is nobody's.
+// The elements are the front of the memory, as far as the count goes; what stands past them is spare.
 impl<'a, T> Model for Shelf<'a, T> {
     ghost use Rattle.std.specs.Prelude.{◌≤◌, length, take, drop, min};
     ghost use Rattle.shelf.specs.Held.{Held};
@@ -42,7 +43,7 @@ impl<'a, T> Model for Shelf<'a, T> {
 }
 
 impl<'a, T: Copy> Shelf<'a, T> {
-    /// A shelf that holds none.
+    /// A shelf that holds none, in memory that is left as it is.
     pub fn new(memory: &'a mut [T]) -> Shelf<'a, T>
         ensures items { result.items ≡ [] }
         ensures most { result.most ≡ min (length memory.old) 1073741824 }
